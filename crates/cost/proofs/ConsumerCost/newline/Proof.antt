@@ -1,0 +1,16 @@
+use Rattle.cost.proofs.Laws.{low-only}
+use borrow.Author.Needs.{needs}
+use Rattle.cost.proofs.ConsumerCost.newline.Statement.{statement}
+use Rattle.cost.proofs.ConsumerCost.newline.Tie as tie
+
+charge-requires : tie.Need-charge-requires
+charge-requires c κs = search needs
+
+cast-t4 : tie.Need-cast-t4
+cast-t4 c = search needs
+
+returns : tie.Need-returns
+returns c = low-only _ _ _ (c .before .charge .ensures)
+
+pub newline-spec : {M : Type 1} → statement M
+newline-spec = tie.close (tie.spec charge-requires cast-t4 returns)
