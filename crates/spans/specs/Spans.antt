@@ -1,0 +1,38 @@
+-- A span as it is opened, as it is closed, and as a row of words holds it.
+use Prim.Native.Nat.{ℕ, zero, suc, _<_, _≤_, _^_}
+use mathlib.Core.List.{List, _++_, map}
+use lib.ListN.{getD, take, drop}
+use Rattle.tables.specs.declared.AnnotationId.{AnnotationId}
+use Rattle.spans.specs.declared.SpanId.{SpanId}
+use Rattle.spans.specs.declared.AnnotationSpan.{AnnotationSpan}
+use Rattle.spans.specs.declared.Parent.{Parent}
+use Rattle.spans.specs.declared.Parent.the-variants.{Nothing, Span}
+
+abbrev pub openSpan : AnnotationId → ℕ → Parent → AnnotationSpan
+openSpan a p m = record { annotation = a; start = p; end = p; parent = m }
+
+abbrev pub closeSpan : AnnotationSpan → ℕ → AnnotationSpan
+closeSpan s p = record { annotation = s .annotation; start = s .start; end = p; parent = s .parent }
+
+-- what `getD` gives past the end of a list of spans
+abbrev pub blank : AnnotationSpan
+blank = record { annotation = record { 0 = 0 }; start = 0; end = 0; parent = Nothing }
+
+-- a parent as a word holds it: 0 is none, and k + 1 the span k
+abbrev pub wordFits : ℕ → Type 0
+wordFits w = w ≤ 2 ^ 32
+
+unfoldable pub parentOf : ℕ → Parent
+parentOf zero = Nothing
+parentOf (suc k) = Span (record { 0 = k })
+
+-- a row's words: annotation, start, end, parent
+abbrev pub RowFits : List ℕ → Type 0
+RowFits r = (getD r 0 0 < 2 ^ 32) × wordFits (getD r 3 0)
+
+abbrev pub spanOf : List ℕ → AnnotationSpan
+spanOf r = record { annotation = record { 0 = getD r 0 0 }; start = getD r 1 0; end = getD r 2 0; parent = parentOf (getD r 3 0) }
+
+-- the spans of the first n rows, followed by what stood past them in the lent list
+unfoldable pub laid : List (List ℕ) → ℕ → List AnnotationSpan → List AnnotationSpan
+laid rows n spans = map spanOf (take n rows) ++ drop n spans
