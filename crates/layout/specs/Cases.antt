@@ -1,0 +1,181 @@
+-- Worked cases over the definitions, by computation: those of document 01 that are about layouts and frontiers, and others that tell readings apart.
+use mathlib.Core.Path.{_≡_, refl}
+use mathlib.Core.Option.{Option, none, some, Option·map}
+use mathlib.Core.List.{List, [], _∷_, map}
+use Prim.Native.Nat.{ℕ, zero, suc}
+use Rattle.cost.specs.Cost.{cheap, cheaper}
+use Rattle.layout.specs.Document.{Word}
+use Rattle.layout.specs.Rules.{Rules, squares}
+use Rattle.layout.specs.Layout.{Plan, blank, page, overflow-of, burden-of}
+use Rattle.layout.specs.Spans.{Span, spans}
+use Rattle.layout.specs.Choice.{layouts, chosen}
+use Rattle.layout.specs.Table.{Node, Table, Empty, Break, HardLine, Text, Seq, Fill, Group, Align, Nest, Choice, Annotate, Penalty}
+use Rattle.layout.specs.References.{RightList, two, more}
+use Rattle.layout.specs.Frontier.{present, load, build, Cand, covers}
+use Rattle.layout.specs.Pruning.{presents}
+use Rattle.layout.specs.Letter.{presents-all}
+use Rattle.layout.specs.Reading.{unfolded}
+
+abbrev nth : {A : Type 0} → A → List A → ℕ → A
+nth d [] n = d
+nth d (x ∷ l) zero = x
+nth d (x ∷ l) (suc n) = nth d l n
+
+-- a node that has no flat node, and one that has
+abbrev Row : Type 0
+Row = Node × Option ℕ
+
+abbrev plain : Node → Row
+plain v = (v, none)
+
+abbrev with-flat : ℕ → Node → Row
+with-flat f v = (v, some f)
+
+-- texts: 0 the space, 1 `a`, 2 `b`, 3 `c`, 4 `ab`, 5 `cd`, 6 `abc`
+abbrev word : ℕ → List ℕ → Word
+word w b = record { width = w; bytes = b }
+
+abbrev words : List Word
+words = word 1 (32 ∷ []) ∷ word 1 (97 ∷ []) ∷ word 1 (98 ∷ []) ∷ word 1 (99 ∷ []) ∷ word 2 (97 ∷ 98 ∷ []) ∷ word 2 (99 ∷ 100 ∷ []) ∷ word 3 (97 ∷ 98 ∷ 99 ∷ []) ∷ []
+
+abbrev table : List Row → Table
+table l = record { node = λ n. nth (plain Empty) l n .0; flat = λ n. nth (plain Empty) l n .1; texts = nth (word 0 []) words; space = word 1 (32 ∷ []) }
+
+-- page width, newline cost, policy, and nodes: 0 is the root
+pub record Case : Type 0 where
+  pub rules : Rules
+  pub rows : List Row
+
+abbrev at : ℕ → ℕ → ℕ → List Row → Case
+at w n p l = record { rules = squares w n p; rows = l }
+
+-- the answer's overflow, burden and page
+abbrev Shown : Type 0
+Shown = ℕ × ℕ × List ℕ
+
+abbrev shown : Rules → Plan → Shown
+shown R p = (overflow-of R p, burden-of R p, page p)
+
+abbrev plan : Case → Option Plan
+plan k = chosen (k .rules) (unfolded (table (k .rows)) 8 0)
+
+abbrev answer : Case → Option Shown
+answer k = Option·map (shown (k .rules)) (plan k)
+
+abbrev one-empty : List Row
+one-empty = plain Empty ∷ []
+
+abbrev one-text : ℕ → List Row
+one-text t = plain (Text t) ∷ []
+
+-- Group of `ab` Break `cd`, flat `ab cd`
+abbrev group : List Row
+group = plain (Group 1) ∷ with-flat 2 (Seq (3 ∷ 5 ∷ 4 ∷ [])) ∷ plain (Seq (3 ∷ 6 ∷ 4 ∷ [])) ∷ plain (Text 4) ∷ plain (Text 5) ∷ plain Break ∷ plain (Text 0) ∷ []
+
+-- the same without a flat node
+abbrev group-broken : List Row
+group-broken = plain (Group 1) ∷ plain (Seq (2 ∷ 4 ∷ 3 ∷ [])) ∷ plain (Text 4) ∷ plain (Text 5) ∷ plain Break ∷ []
+
+-- Fill of `a`, `b`; of `a`, `b`, `c`
+abbrev fill-two : List Row
+fill-two = plain (Fill (1 ∷ 2 ∷ [])) ∷ plain (Text 1) ∷ plain (Text 2) ∷ []
+
+abbrev fill-three : List Row
+fill-three = plain (Fill (1 ∷ 2 ∷ 3 ∷ [])) ∷ plain (Text 1) ∷ plain (Text 2) ∷ plain (Text 3) ∷ []
+
+-- a HardLine in Nest 3, in Nest 2 within Nest 1, and aligned after `ab`
+abbrev nested : List Row
+nested = plain (Nest 3 1) ∷ plain HardLine ∷ []
+
+abbrev twice : ℕ → Node → List Row
+twice n v = plain (Nest 1 1) ∷ plain (Nest n 2) ∷ plain v ∷ []
+
+abbrev aligned : List Row
+aligned = plain (Seq (1 ∷ 2 ∷ [])) ∷ plain (Text 4) ∷ plain (Align 3) ∷ plain HardLine ∷ []
+
+-- `a`, a gap, `b`, the same gap, `c`: the gap is a Group of Break with a space as flat node
+abbrev shared : List Row
+shared = plain (Seq (1 ∷ 2 ∷ 3 ∷ 2 ∷ 4 ∷ [])) ∷ plain (Text 1) ∷ plain (Group 5) ∷ plain (Text 2) ∷ plain (Text 3) ∷ with-flat 6 Break ∷ plain (Text 0) ∷ []
+
+-- two ways at the same cost, `abc` preferred although `c` ends further left; and the preferred one at a penalty
+abbrev either : List Row
+either = plain (Choice 1 2) ∷ plain (Text 6) ∷ plain (Text 3) ∷ []
+
+abbrev fined : List Row
+fined = plain (Choice 1 2) ∷ plain (Penalty 5 3) ∷ plain (Text 3) ∷ plain (Text 6) ∷ []
+
+-- one table: the case, and its answer
+abbrev cases : List (Case × Shown)
+cases = (at 80 1 0 one-empty, (0, 0, []))
+    ∷ (at 2 1 0 (one-text 4), (0, 0, 97 ∷ 98 ∷ []))
+    ∷ (at 1 1 0 (one-text 4), (1, 0, 97 ∷ 98 ∷ []))
+    ∷ (at 1 1 0 (one-text 6), (4, 0, 97 ∷ 98 ∷ 99 ∷ []))
+    ∷ (at 5 1 0 group, (0, 0, 97 ∷ 98 ∷ 32 ∷ 99 ∷ 100 ∷ []))
+    ∷ (at 4 1 0 group, (0, 1, 97 ∷ 98 ∷ 10 ∷ 99 ∷ 100 ∷ []))
+    ∷ (at 5 0 0 group, (0, 0, 97 ∷ 98 ∷ 32 ∷ 99 ∷ 100 ∷ []))
+    ∷ (at 5 1 0 group-broken, (0, 1, 97 ∷ 98 ∷ 10 ∷ 99 ∷ 100 ∷ []))
+    ∷ (at 3 1 0 fill-two, (0, 0, 97 ∷ 32 ∷ 98 ∷ []))
+    ∷ (at 2 1 0 fill-two, (0, 1, 97 ∷ 10 ∷ 98 ∷ []))
+    ∷ (at 3 0 0 fill-three, (0, 0, 97 ∷ 32 ∷ 98 ∷ 10 ∷ 99 ∷ []))
+    ∷ (at 3 0 0 nested, (0, 0, 10 ∷ 32 ∷ 32 ∷ 32 ∷ []))
+    ∷ (at 3 0 1 nested, (0, 0, 10 ∷ 32 ∷ 32 ∷ []))
+    ∷ (at 80 1 1 (twice 4294967295 Empty), (0, 0, []))
+    ∷ (at 2 0 0 (twice 2 HardLine), (1, 0, 10 ∷ 32 ∷ 32 ∷ 32 ∷ []))
+    ∷ (at 2 0 1 (twice 2 HardLine), (0, 0, 10 ∷ 32 ∷ []))
+    ∷ (at 2 0 0 aligned, (0, 0, 97 ∷ 98 ∷ 10 ∷ 32 ∷ 32 ∷ []))
+    ∷ (at 2 0 1 aligned, (0, 0, 97 ∷ 98 ∷ 10 ∷ 32 ∷ []))
+    ∷ (at 3 1 0 shared, (0, 1, 97 ∷ 32 ∷ 98 ∷ 10 ∷ 99 ∷ []))
+    ∷ (at 3 1 0 either, (0, 0, 97 ∷ 98 ∷ 99 ∷ []))
+    ∷ (at 3 1 0 fined, (0, 0, 99 ∷ []))
+    ∷ (at 3 1 0 (plain (Seq []) ∷ []), (0, 0, []))
+    ∷ (at 3 1 0 (plain (Fill []) ∷ []), (0, 0, []))
+    ∷ []
+
+all-cases : map (λ k. answer (k .0)) cases ≡ map (λ k. some (k .1)) cases
+unfolding cheap cheaper layouts
+all-cases = refl
+
+-- the layouts of a Fill in choice order: `a b c`, `a b/c`, `a/b c`, `a/b/c`
+fill-layouts : map page (layouts (squares 3 0 0) (unfolded (table fill-three) 2 0) 0 0)
+    ≡ (97 ∷ 32 ∷ 98 ∷ 32 ∷ 99 ∷ []) ∷ (97 ∷ 32 ∷ 98 ∷ 10 ∷ 99 ∷ []) ∷ (97 ∷ 10 ∷ 98 ∷ 32 ∷ 99 ∷ []) ∷ (97 ∷ 10 ∷ 98 ∷ 10 ∷ 99 ∷ []) ∷ []
+unfolding layouts
+fill-layouts = refl
+
+-- Annotate 7 around Annotate 9 of `a`, Annotate 8 of `ab`, and the first of these again
+abbrev annotated : List Row
+annotated = plain (Annotate 7 1) ∷ plain (Seq (2 ∷ 3 ∷ 2 ∷ [])) ∷ plain (Annotate 9 4) ∷ plain (Annotate 8 5) ∷ plain (Text 1) ∷ plain (Text 4) ∷ []
+
+abbrev span : ℕ → ℕ → ℕ → Option ℕ → Span
+span a s e p = record { annotation = a; start = s; end = e; parent = p }
+
+annotated-spans : Option·map spans (plan (at 80 1 0 annotated)) ≡ some (span 7 0 4 none ∷ span 9 0 1 (some 0) ∷ span 8 1 3 (some 0) ∷ span 9 3 4 (some 0) ∷ [])
+unfolding cheap cheaper layouts
+annotated-spans = refl
+
+-- candidates by overflow, burden and column
+abbrev k : ℕ → ℕ → ℕ → Cand Plan
+k o b c = record { cost = record { overflow = o; burden = b }; column = c; plan = blank }
+
+abbrev presented : List (Cand Plan)
+presented = k 0 5 3 ∷ k 0 5 7 ∷ k 0 6 7 ∷ k 0 4 2 ∷ []
+
+-- one left, three pruned, by either form of the rule
+four-presented : build covers presented ≡ k 0 4 2 ∷ []
+unfolding build load present covers cheap cheaper
+four-presented = refl
+
+four-by-letter : presents-all [] presented ≡ k 0 4 2 ∷ []
+unfolding presents cheap cheaper
+four-by-letter = refl
+
+-- an equal cost at a larger column is kept
+equal-kept : build covers (k 0 5 3 ∷ k 0 5 7 ∷ []) ≡ k 0 5 3 ∷ k 0 5 7 ∷ []
+unfolding build load present covers cheap cheaper
+equal-kept = refl
+
+-- Choice of `a` and a Choice of `b` and `c`: its list of three, one Choice skipped, is right
+abbrev chosen-list : List Row
+chosen-list = plain (Choice 1 2) ∷ plain (Text 1) ∷ plain (Choice 3 4) ∷ plain (Text 2) ∷ plain (Text 3) ∷ []
+
+three-right : RightList (table chosen-list) 1 2 1 (1 ∷ 3 ∷ 4 ∷ [])
+three-right = more 2 3 4 (1 ∷ []) [] refl two

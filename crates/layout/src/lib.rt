@@ -1,0 +1,1 @@
+// The rule and its theory: definitions and theorems only, in specs/.
