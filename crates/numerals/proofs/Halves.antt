@@ -7,11 +7,7 @@ use native.Mathlib.Nat.{add-suc, add-zero, pow-zero, pow-suc, mul-assoc, add-mul
 use lib.ListN.{length, take, drop, length-append, length-drop}
 use lib.Seq.{drop-drop, take-at, drop-at, take-all}
 use Rattle.numerals.specs.Digits.{digit, digits}
-
-pub length-digits : (base k n : ℕ) → length (digits base k n) ≡ k
-unfolding digits
-length-digits base zero n = refl
-length-digits base (suc k) n = length-append (digits base k (n / base)) (digit (n % base) ∷ []) ∙ ap (λ (z : ℕ). z + 1) (length-digits base k (n / base)) ∙ omega arith
+use Rattle.numerals.specs.Lengths.{length-digits}
 
 module _ (base : ℕ) (p : 0 < base) where
   quotient : (x l : ℕ) → (x * base + l) / base ≡ x + l / base

@@ -46,7 +46,7 @@ pub fn width(n: u64) -> usize
 // n in decimal at the front of the lent part; the answer is the number of bytes.
 pub fn put_decimal(out: &mut [u8], n: u64) -> usize
     requires { ⌜ 20 ≤ length (now out) ⌝ }
-    ensures { λ r. ⌜ (r ≡ length (decimal n)) × (now (out .exit) ≡ decimal n ++ drop r (now (out .entry))) ⌝ }
+    ensures { λ r. ⌜ (r ≡ length (decimal n)) × (r ≤ 20) × (now (out .exit) ≡ decimal n ++ drop r (now (out .entry))) ⌝ }
 {
     let count = width(n);
     put_digits(out, 10, n, count);
