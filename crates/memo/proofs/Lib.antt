@@ -1,0 +1,10 @@
+pub mod Known
+pub mod Product
+pub mod Doubling
+pub mod Pigeon
+pub mod Lookup
+pub mod Search
+pub mod Grow
+pub mod Answers
+pub mod Replace
+pub mod Uses

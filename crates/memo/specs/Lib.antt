@@ -1,0 +1,4 @@
+pub mod Hash
+pub mod Sizes
+pub mod Entries
+pub mod Index

@@ -1,0 +1,3 @@
+pub mod Commit
+pub mod Uses
+pub mod Cases

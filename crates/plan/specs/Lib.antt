@@ -1,0 +1,3 @@
+pub mod Records
+pub mod Arena
+pub mod Layouts
