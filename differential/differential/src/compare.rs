@@ -1,0 +1,266 @@
+//! One comparison: the model, the reference, brute force and our library on the same call.
+
+use common::{describe, to_hex, Answer, Counts, Limits, Settings, Sizes, Tables};
+use model::file::WriteRefusal;
+use reference::access::Document;
+
+use crate::ours::Printer;
+use crate::shrink::{shrink, Subject};
+
+/// Runs that go on longer than this are left to the model's limits; the reference has none.
+pub const LIMITS: Limits = Limits { work: 40_000, visits: 100_000 };
+/// Large, but a page of an extreme indent is refused soon.
+pub const PROBE: Sizes = Sizes { output: 1 << 16, ..Sizes::MOST };
+
+#[derive(Default)]
+pub struct Tally {
+    pub documents: u64,
+    /// Calls whose answers were compared.
+    pub cases: u64,
+    /// Of these, by the reference.
+    pub by_reference: u64,
+    /// By number of refusal; 0 is a page.
+    pub answers: [u64; 23],
+    pub enumerated: u64,
+    pub layouts: u64,
+    pub ties: u64,
+    pub prepared: u64,
+    /// Choice lists that prepare.rs built.
+    pub prepared_lists: u64,
+    pub damaged: u64,
+    pub masked: u64,
+    pub past_64: u64,
+    pub limit_checks: u64,
+    /// Domain refusals by reason: column, indent, overflow, burden.
+    pub reasons: [u64; 4],
+    pub peak_frontier: u64,
+    pub presented: u64,
+    pub writer_refusals: [u64; 11],
+    pub differences: u64,
+}
+
+pub struct Call<'a> {
+    pub file: &'a [u8],
+    pub settings: Settings,
+    pub sizes: Sizes,
+    pub limits: Limits,
+}
+
+impl Call<'_> {
+    pub fn describe(&self) -> String {
+        format!(
+            "file {}\nsettings {} {} {}\nsizes {:?}\nlimits {} {}\n",
+            to_hex(self.file),
+            self.settings.width,
+            self.settings.newline_cost,
+            self.settings.policy,
+            self.sizes.list(),
+            self.limits.work,
+            self.limits.visits
+        )
+    }
+}
+
+pub struct Comparer {
+    pub tally: Tally,
+    pub ours: Option<Box<dyn Printer>>,
+}
+
+pub fn number(answer: &Answer) -> u32 {
+    answer.as_ref().err().map_or(0, |refusal| refusal.number)
+}
+
+pub fn counts(answer: &Answer) -> Counts {
+    match answer {
+        Ok(page) => page.counts,
+        Err(refusal) => refusal.counts,
+    }
+}
+
+impl Comparer {
+    pub fn difference(&mut self, what: &str, call: &Call, left: &str, right: &str) {
+        self.tally.differences += 1;
+        println!("DIFFERENCE: {what}\n{}--- left\n{left}\n--- right\n{right}\n", call.describe());
+    }
+
+    /// The model's answer, held to the reference's (where it can give one) and to ours (where it is linked).
+    pub fn call(&mut self, call: &Call, document: Option<(&Tables, &Document)>) -> Answer {
+        let modelled = match document {
+            Some((tables, _)) => {
+                let (answer, trace) = model::render(tables, &call.settings, &call.sizes, &call.limits);
+                if let Some(reason) = trace.reason {
+                    self.tally.reasons[reason as usize] += 1;
+                }
+                answer
+            }
+            None => model::answer(call.file, &call.settings, &call.sizes, &call.limits),
+        };
+        let found = number(&modelled);
+        self.tally.cases += 1;
+        self.tally.answers[found as usize] += 1;
+        let counts = counts(&modelled);
+        self.tally.peak_frontier = self.tally.peak_frontier.max(counts.peak_frontier);
+        if counts.work != counts.hits + counts.misses + counts.generated || counts.pruned > counts.generated {
+            self.difference("counts do not add up", call, &describe(&modelled), "");
+        }
+        if document.is_some() && !matches!(found, 12 | 22) {
+            self.tally.by_reference += 1;
+        }
+        if let Some((what, other)) = self.unlike(call, document, &modelled) {
+            self.difference(what, call, &describe(&other), &describe(&modelled));
+            if let Some((tables, _)) = document {
+                self.smallest(call, tables);
+            }
+        }
+        modelled
+    }
+
+    /// The model's writer, held to ours.
+    pub fn write(&mut self, tables: &Tables, room: u64) -> Result<Vec<u8>, WriteRefusal> {
+        let modelled = model::file::write(tables, room);
+        let ours = self.ours.as_mut().and_then(|ours| ours.write(tables, room));
+        if ours.as_ref().is_some_and(|ours| *ours != modelled) {
+            self.tally.differences += 1;
+            println!("DIFFERENCE: ours, model: the writer, room {room}\n{tables:?}\n{ours:?}\n{modelled:?}\n");
+        }
+        modelled
+    }
+
+    /// The model's program `page`, held to ours.
+    pub fn page(&mut self, call: &Call) {
+        let Some(ours) = &mut self.ours else { return };
+        let settings = call.settings;
+        let mut input = vec![1 | u8::from(settings.newline_cost > 0) << 1 | (settings.policy as u8 & 1) << 2];
+        input.extend(settings.width.to_le_bytes());
+        if settings.newline_cost > 0 {
+            input.extend(settings.newline_cost.to_le_bytes());
+        }
+        input.extend(call.file);
+        let modelled = model::page(&input);
+        let Some(output) = ours.page(&input) else { return };
+        if output != modelled {
+            self.difference(
+                "ours, model: the program",
+                call,
+                &output.escape_ascii().to_string(),
+                &modelled.escape_ascii().to_string(),
+            );
+        }
+    }
+
+    /// An answer that differs from the model's, and whose it is.
+    fn unlike(
+        &mut self,
+        call: &Call,
+        document: Option<(&Tables, &Document)>,
+        modelled: &Answer,
+    ) -> Option<(&'static str, Answer)> {
+        if let (Some((_, document)), false) = (document, matches!(number(modelled), 12 | 22)) {
+            let mut shown = reference::access::render(document, &call.settings, &call.sizes);
+            reference::access::fill_in(&mut shown, modelled, document.masked);
+            if shown != *modelled {
+                return Some(("reference, model", shown));
+            }
+        }
+        let ours = self.ours.as_mut()?.answer(call.file, &call.settings, &call.sizes, &call.limits);
+        (ours != *modelled).then_some(("ours, model", ours))
+    }
+
+    /// Prints a smaller call on which the answers still differ.
+    fn smallest(&mut self, call: &Call, tables: &Tables) {
+        let Call { settings, sizes, limits, .. } = *call;
+        let subject = Subject { tables: tables.clone(), settings, sizes, limits };
+        let answers = |comparer: &mut Comparer, subject: &Subject| {
+            let (modelled, _) = model::render(&subject.tables, &subject.settings, &subject.sizes, &subject.limits);
+            let document = reference::access::document(&subject.tables);
+            let file = model::file::bytes(&subject.tables);
+            let Subject { settings, sizes, limits, .. } = *subject;
+            let call = Call { file: &file, settings, sizes, limits };
+            let other = comparer.unlike(&call, Some((&subject.tables, &document)), &modelled);
+            other.map(|(what, other)| (format!("{what}\n{}", call.describe()), other, modelled))
+        };
+        let small = shrink(subject, &mut |subject| answers(self, subject).is_some());
+        if let Some((what, other, modelled)) = answers(self, &small) {
+            println!("SMALLER: {what}--- left\n{}--- right\n{}", describe(&other), describe(&modelled));
+            println!("{:?}\n", small.tables);
+        }
+    }
+
+    /// The first of the cheapest layouts, found by enumeration, is the page.
+    pub fn enumerate(&mut self, call: &Call, tables: &Tables, answer: &Answer) {
+        let Ok(page) = answer else { return };
+        let Some(best) = brute::best(tables, &call.settings, 3_000, 400) else { return };
+        self.tally.enumerated += 1;
+        self.tally.layouts += best.layouts as u64;
+        self.tally.ties += u64::from(best.cheapest > 1);
+        if best.bytes != page.bytes
+            || best.spans != page.spans
+            || best.overflow != page.overflow
+            || best.burden != u128::from(page.burden)
+        {
+            self.difference("page, enumeration", call, &describe(answer), &format!("{best:?}"));
+        }
+    }
+}
+
+/// Document 01's pruning rule on a list: the survivors by number of presentation.
+fn survivors(list: &[(u32, u128, u64)]) -> Vec<usize> {
+    let mut kept: Vec<usize> = Vec::new();
+    for (index, (column, overflow, burden)) in list.iter().enumerate() {
+        let cost = |other: &usize| (list[*other].1, list[*other].2);
+        let lower = kept.iter().filter(|other| list[**other].0 < *column).max_by_key(|other| list[**other].0);
+        let same = kept.iter().find(|other| list[**other].0 == *column);
+        let own = (*overflow, *burden);
+        if same.is_some_and(|other| cost(other) <= own) || lower.is_some_and(|other| cost(other) < own) {
+            continue;
+        }
+        kept.retain(|other| list[*other].0 < *column || (list[*other].0 != *column && cost(other) <= own));
+        kept.push(index);
+    }
+    kept
+}
+
+/// The heights of a search tree given in pre-order are right and balanced. Returns its height and what is left of the list.
+fn balanced(tree: &[(u32, u16)], low: u64, high: u64) -> Option<(u16, &[(u32, u16)])> {
+    let Some(((column, height), rest)) = tree.split_first() else { return Some((0, tree)) };
+    let key = u64::from(*column);
+    if key < low || key >= high {
+        return Some((0, tree));
+    }
+    let (left, rest) = balanced(rest, low, key)?;
+    let (right, rest) = balanced(rest, key + 1, high)?;
+    (*height == 1 + left.max(right) && left.abs_diff(right) <= 1).then_some((*height, rest))
+}
+
+impl Comparer {
+    /// The reference's builder on a random list of candidates, against the rule; its tree is a balanced search tree of the survivors.
+    pub fn present(&mut self, rng: &mut generate::Rng) {
+        self.tally.presented += 1;
+        let columns = rng.pick(&[3, 10, 40, 200]);
+        let costs = rng.pick(&[2, 10, 100]);
+        let stairs = rng.chance(2);
+        let length = rng.pick(&[4, 20, 120]);
+        let list: Vec<(u32, u128, u64)> = (0..rng.within(0, length))
+            .map(|_| {
+                let column = rng.within(0, columns);
+                let high = if rng.chance(6) { u128::from(rng.word()) << 64 } else { 0 };
+                let down = if stairs { u128::from(columns - column) * u128::from(costs) } else { 0 };
+                (column, high + down + u128::from(rng.within(0, costs) / 2), rng.below(3))
+            })
+            .collect();
+        let (kept, generated, pruned, tree) = reference::access::present_all(&list);
+        let columns = |kept: &[usize]| {
+            let mut columns: Vec<u32> = kept.iter().map(|index| list[*index].0).collect();
+            columns.sort_unstable();
+            columns
+        };
+        let mut keys: Vec<u32> = tree.iter().map(|(column, _)| *column).collect();
+        keys.sort_unstable();
+        let shape = balanced(&tree, 0, u64::MAX).is_some_and(|(_, rest)| rest.is_empty());
+        let counts = generated == list.len() as u64 && pruned == (list.len() - kept.len()) as u64;
+        if kept != survivors(&list) || keys != columns(&kept) || !shape || !counts {
+            self.tally.differences += 1;
+            println!("DIFFERENCE: frontier\n{list:?}\n{kept:?}\n{:?}\n{tree:?}", survivors(&list));
+        }
+    }
+}

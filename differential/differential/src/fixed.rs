@@ -1,0 +1,288 @@
+//! The hand-checked cases of document 01 and the separating inputs of docs/DECISIONS.md, each with what it must give. They are run on
+//! the model and on the reference at the start of every run, and open the frozen sample.
+
+use common::{from_hex, kind, Limits, Node, Settings, Sizes, Tables, Text};
+
+pub struct Case {
+    pub name: &'static str,
+    pub file: Vec<u8>,
+    pub settings: Settings,
+    pub sizes: Sizes,
+    pub limits: Limits,
+    pub want: Want,
+}
+
+pub enum Want {
+    /// The page, its overflow and burden, and the work.
+    Page(&'static str, u128, u64, Option<u64>),
+    /// Number, needed, and the work.
+    Refused(u32, u64, Option<u64>),
+}
+
+/// The tables of a small document; text 0 is the space.
+struct Build(Tables);
+
+impl Build {
+    fn new() -> Build {
+        Build(Tables { texts: vec![Text { width: 1, bytes: vec![32] }], ..Tables::default() })
+    }
+
+    fn node(&mut self, kind: u8, first: u32, second: u32) -> u32 {
+        self.0.nodes.push(Node::of(kind, first, second));
+        self.0.nodes.len() as u32 - 1
+    }
+
+    fn wide(&mut self, text: &str, width: u32) -> u32 {
+        self.0.texts.push(Text { width, bytes: text.as_bytes().to_vec() });
+        let text = self.0.texts.len() as u32 - 1;
+        self.node(kind::TEXT, text, 0)
+    }
+
+    fn text(&mut self, text: &str) -> u32 {
+        self.wide(text, text.len() as u32)
+    }
+
+    fn list(&mut self, kind: u8, children: &[u32]) -> u32 {
+        let start = self.0.edges.len() as u32;
+        self.0.edges.extend(children);
+        self.node(kind, start, children.len() as u32)
+    }
+
+    fn doubled(&mut self, mut node: u32, times: u32) -> u32 {
+        for _ in 0..times {
+            node = self.list(kind::SEQ, &[node, node]);
+        }
+        node
+    }
+
+    /// The file whose root is the last node.
+    fn file(mut self) -> Vec<u8> {
+        self.0.root = self.0.nodes.len() as u32 - 1;
+        model::file::bytes(&self.0)
+    }
+}
+
+fn settings(width: u32, newline_cost: u32, policy: u32) -> Settings {
+    Settings { width, newline_cost, policy }
+}
+
+fn hex(text: &str) -> Vec<u8> {
+    let h = "05 01000000 01000000";
+    let sp = "03 01000000 01000000 20";
+    from_hex(&text.replace('h', h).replace("sp", sp)).expect("hexadecimal")
+}
+
+pub fn cases() -> Vec<Case> {
+    let mut list = Vec::new();
+    let mut add = |name, file: Vec<u8>, settings, sizes, limits, want| {
+        list.push(Case { name, file, settings, sizes, limits, want });
+    };
+    let usual = settings(80, 1, 0);
+    let (page, none) = (Sizes::PAGE, Limits::PAGE);
+    use Want::{Page, Refused};
+
+    // Document 01, checked by hand.
+    add("one Empty", hex("h 0000 sp"), usual, page, none, Page("", 0, 0, Some(2)));
+    let ab = || {
+        let mut b = Build::new();
+        b.text("ab");
+        b.file()
+    };
+    add("ab, W 2", ab(), settings(2, 1, 0), page, none, Page("ab", 0, 0, Some(2)));
+    add("ab, W 1", ab(), settings(1, 1, 0), page, none, Page("ab", 1, 0, Some(2)));
+    let mut b = Build::new();
+    b.text("abc");
+    add("abc, W 1: a square", b.file(), settings(1, 1, 0), page, none, Page("abc", 4, 0, Some(2)));
+    let group = || {
+        let mut b = Build::new();
+        let (ab, line, cd) = (b.text("ab"), b.node(kind::BREAK, 0, 0), b.text("cd"));
+        let space = b.node(kind::TEXT, 0, 0);
+        let flat = b.list(kind::SEQ, &[ab, space, cd]);
+        let child = b.list(kind::SEQ, &[ab, line, cd]);
+        b.0.nodes[child as usize].flat = Some(flat);
+        b.node(kind::GROUP, child, 0);
+        b.file()
+    };
+    add("group, W 5", group(), settings(5, 1, 0), page, none, Page("ab cd", 0, 0, None));
+    add("group, W 4", group(), settings(4, 1, 0), page, none, Page("ab\ncd", 0, 1, None));
+    add("group, W 5, newline 0: a tie", group(), settings(5, 0, 0), page, none, Page("ab cd", 0, 0, None));
+    let fill = || {
+        let mut b = Build::new();
+        let pair = [b.text("a"), b.text("b")];
+        b.list(kind::FILL, &pair);
+        b.file()
+    };
+    add("fill, W 3", fill(), settings(3, 1, 0), page, none, Page("a b", 0, 0, None));
+    add("fill, W 2", fill(), settings(2, 1, 0), page, none, Page("a\nb", 0, 1, None));
+    let nests = || {
+        let mut b = Build::new();
+        let empty = b.node(kind::EMPTY, 0, 0);
+        let inner = b.node(kind::NEST, u32::MAX, empty);
+        b.node(kind::NEST, 1, inner);
+        b.file()
+    };
+    add("Nest 1 over Nest 2^32-1", nests(), usual, page, none, Refused(11, 0, Some(2)));
+    add("Nest 1 over Nest 2^32-1, policy 1", nests(), settings(80, 1, 1), page, none, Refused(11, 0, Some(2)));
+    let line = || {
+        let mut b = Build::new();
+        let line = b.node(kind::HARD_LINE, 0, 0);
+        b.node(kind::NEST, 3, line);
+        b.file()
+    };
+    add("HardLine in Nest 3, W 3", line(), settings(3, 1, 0), page, none, Page("\n   ", 0, 1, None));
+    add("HardLine in Nest 3, W 3, policy 1", line(), settings(3, 1, 1), page, none, Page("\n  ", 0, 1, None));
+    add("ab, work limit 1", ab(), usual, page, Limits { work: 1, ..none }, Refused(12, 0, Some(1)));
+    add("ab, work limit 2", ab(), usual, page, Limits { work: 2, ..none }, Page("ab", 0, 0, Some(2)));
+    add("ab, memo 0", ab(), usual, Sizes { memo: 0, ..page }, none, Refused(14, 1, Some(2)));
+
+    // The reader (1 to 12).
+    for (name, file, number) in [
+        ("1: the empty file", "", 2),
+        ("1: a header alone", "h", 2),
+        ("2: nodes absent", "04", 4),
+        ("2: 4,097 nodes, then cut", "05 01100000", 4),
+        ("3: nodes present with 0", "01 00000000", 3),
+        ("3: root present with 0", "25 01000000 01000000 00000000", 3),
+        ("3: space text present with 0", "45 01000000 01000000 00000000", 3),
+        ("4: node bit 6", "h 40", 3),
+        ("4: node bit 7", "h 80", 3),
+        ("4: node bit 3 alone", "h 08", 3),
+        ("4: node bit 5 alone", "h 20", 3),
+        ("4: node bit 4, then cut", "h 10", 2),
+        ("4: node bit 4 in an Empty", "h 10 00", 3),
+        ("4: header bit 7", "85", 3),
+        ("4: text bit 2", "h 0000 04", 3),
+        ("5: kind 12", "h 01 0c", 3),
+        ("5: a Text with a second", "h 03 01", 3),
+        ("5: a Text, cut in its field", "h 01 01", 2),
+        ("6: flat node 2^32-1", "h 0400 ffffffff sp", 6),
+        ("7: text total at the length", "h 0000 02 01000100", 4),
+        ("8: one byte after the last text", "h 0000 sp 00", 5),
+        ("9: root past the nodes", "25 01000000 01000000 01000000 0000 sp", 6),
+        ("9: an unused edge past the nodes", "07 01000000 01000000 01000000 0000 01000000 sp", 6),
+        ("9: an empty range past the edges", "h 0104 01000000 sp", 6),
+        ("9: a Text, its absent field is text 0; an Annotate without annotations", "h 000a sp", 6),
+        ("10: a single text that is byte 10", "h 0000 03 01000000 01000000 0a", 7),
+        ("10: no Fill, yet the space text is wrong", "h 0000 03 02000000 01000000 20", 8),
+        ("10: space text of another width, absent", "h 0000 02 01000000 20", 8),
+        ("11: a Group in its child's flat node", "05 02000000 01000000 0105 01000000 0400 00000000 sp", 9),
+        ("11: an Align of itself", "h 0008 sp", 9),
+        ("12: a list of length 1", "17 01000000 01000000 01000000 01000000 1009 01000000 00000000 00000000 sp", 9),
+    ] {
+        // `17` has edges too; the last case shows that the circle comes before the list.
+        add(name, hex(file), usual, page, none, Refused(number, 0, Some(0)));
+    }
+    add(
+        "9: a range at the edges' end of length 0",
+        hex("07 01000000 01000000 01000000 0104 01000000 00000000 sp"),
+        usual,
+        page,
+        none,
+        Page("", 0, 0, Some(2)),
+    );
+    add(
+        "11: an Empty that is its own flat node",
+        hex("h 0400 00000000 sp"),
+        usual,
+        page,
+        none,
+        Page("", 0, 0, Some(2)),
+    );
+    let listed = |length: u32, skipped: u32, entries: &[u32]| {
+        let mut b = Build::new();
+        b.node(kind::EMPTY, 0, 0);
+        b.node(kind::EMPTY, 0, 0);
+        b.node(kind::CHOICE, 0, 1);
+        b.node(kind::CHOICE, 2, 1);
+        b.0.nodes[3].choice_length = length;
+        b.0.nodes[3].skipped = skipped;
+        b.0.choice_edges.extend(entries);
+        b.file()
+    };
+    add("12: length 1", listed(1, 0, &[2]), usual, page, none, Refused(10, 0, Some(0)));
+    add("12: length 2, skipped 0", listed(2, 0, &[2, 1]), usual, page, none, Page("", 0, 0, None));
+    add("12: a Choice replaced", listed(3, 1, &[0, 1, 1]), usual, page, none, Page("", 0, 0, None));
+    add("12: skipped does not count", listed(3, 0, &[0, 1, 1]), usual, page, none, Refused(10, 0, Some(0)));
+    add("12: a list that names its own Choice", listed(2, 0, &[3, 1]), usual, page, none, Refused(10, 0, Some(0)));
+
+    // The calls (16 to 26).
+    add("16: output 1", ab(), usual, Sizes { output: 1, ..page }, none, Refused(20, 2, Some(2)));
+    add("16: width 0", ab(), settings(0, 1, 0), page, none, Refused(1, 0, Some(0)));
+    add("16: policy 2, before a bad file", hex("04"), settings(80, 1, 2), page, none, Refused(1, 0, Some(0)));
+    let past = || {
+        let mut b = Build::new();
+        let pair = [b.wide("x", u32::MAX), b.text("y")];
+        b.list(kind::SEQ, &pair);
+        b.file()
+    };
+    add("17: 11 before 12", past(), usual, page, Limits { work: 4, ..none }, Refused(11, 0, Some(4)));
+    add("17: 12", past(), usual, page, Limits { work: 3, ..none }, Refused(12, 0, Some(3)));
+    add(
+        "18: stack 0, work limit 0",
+        ab(),
+        usual,
+        Sizes { stack: 0, ..page },
+        Limits { work: 0, ..none },
+        Refused(13, 1, Some(0)),
+    );
+    add("18: work limit 0", ab(), usual, page, Limits { work: 0, ..none }, Refused(12, 0, Some(0)));
+    add(
+        "18: visit 0, visit limit 0",
+        ab(),
+        usual,
+        Sizes { visit: 0, ..page },
+        Limits { visits: 0, ..none },
+        Refused(18, 1, Some(2)),
+    );
+    add("18: visit limit 0", ab(), usual, page, Limits { visits: 0, ..none }, Refused(22, 0, Some(2)));
+    add("20: plans and kept both 0", ab(), usual, Sizes { plans: 0, kept: 0, ..page }, none, Refused(17, 1, Some(2)));
+    add("20: kept and memo both 0", ab(), usual, Sizes { kept: 0, memo: 0, ..page }, none, Refused(15, 1, Some(2)));
+    add("20: frontier 0", ab(), usual, Sizes { frontier: 0, ..page }, none, Refused(16, 1, Some(2)));
+    let mark = || {
+        let mut b = Build::new();
+        b.0.annotations = 1;
+        let text = b.text("ab");
+        b.node(kind::ANNOTATE, 0, text);
+        b.file()
+    };
+    add("22: spans before depth", mark(), usual, Sizes { spans: 0, depth: 0, ..page }, none, Refused(21, 1, None));
+    add("22: depth before visit", mark(), usual, Sizes { depth: 0, visit: 1, ..page }, none, Refused(19, 1, None));
+    add("22: visit", mark(), usual, Sizes { visit: 1, ..page }, none, Refused(18, 2, None));
+    add("22: a newline byte by byte", line(), usual, Sizes { output: 2, ..page }, none, Refused(20, 3, None));
+    let choice = |first: bool| {
+        let mut b = Build::new();
+        let empty = b.node(kind::EMPTY, 0, 0);
+        let (wide, one) = (b.wide("x", u32::MAX), b.text("y"));
+        if first {
+            let both = b.list(kind::SEQ, &[wide, one]);
+            b.node(kind::CHOICE, empty, both);
+        } else {
+            let choice = b.node(kind::CHOICE, empty, wide);
+            b.list(kind::SEQ, &[choice, one]);
+        }
+        b.file()
+    };
+    add("25: 11 although a page exists", choice(true), usual, page, none, Refused(11, 0, None));
+    add("25: a page although a layout passes 2^32 columns", choice(false), usual, page, none, Page("y", 0, 0, None));
+    for (name, times, want) in [
+        ("26: overflow doubled 64 times", 64, Refused(20, 32_769, None)),
+        ("26: overflow doubled 65 times", 65, Refused(11, 0, None)),
+    ] {
+        let mut b = Build::new();
+        let line = b.node(kind::HARD_LINE, 0, 0);
+        let nest = b.node(kind::NEST, u32::MAX, line);
+        b.doubled(nest, times);
+        add(name, b.file(), settings(1, 0, 0), page, none, want);
+    }
+    for (name, times, want) in [
+        ("26: burden doubled 32 times", 32, Refused(22, 0, None)),
+        ("26: burden doubled 33 times", 33, Refused(11, 0, None)),
+    ] {
+        let mut b = Build::new();
+        let empty = b.node(kind::EMPTY, 0, 0);
+        let penalty = b.node(kind::PENALTY, u32::MAX, empty);
+        b.doubled(penalty, times);
+        add(name, b.file(), settings(1, 0, 0), page, none, want);
+    }
+    list
+}

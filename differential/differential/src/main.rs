@@ -1,0 +1,352 @@
+//! `differential --seed S --cases N`: random files on the model, the reference, brute force and our library (`--document I`: the one
+//! document of that number again).
+//! `differential exhaustive --nodes N`: all documents of up to N nodes over a small alphabet, and all files one byte away from a few.
+//! `differential report --rows N --seed S`: prints the file of a report of N rows, made by prepare.rs, in hexadecimal.
+//! `differential sample --seed S` and `differential sample-page --seed S`: print a frozen sample (see sample.rs).
+
+mod compare;
+mod exhaustive;
+mod fixed;
+mod ours;
+mod sample;
+mod shrink;
+
+use std::time::Instant;
+
+use common::{Limits, Sizes, Tables};
+use compare::{number, Call, Comparer, LIMITS, PROBE};
+use generate::files::Profile;
+use generate::Rng;
+
+fn main() {
+    // The model recurses as deep as the document nests.
+    let run = std::thread::Builder::new().stack_size(1 << 30).spawn(run).expect("a thread");
+    std::process::exit(run.join().unwrap_or(2));
+}
+
+fn run() -> i32 {
+    let arguments: Vec<String> = std::env::args().skip(1).collect();
+    let value = |name: &str| {
+        let at = arguments.iter().position(|word| word == name)?;
+        arguments.get(at + 1)?.replace('_', "").parse::<u64>().ok()
+    };
+    let seed = value("--seed").unwrap_or(1);
+    match arguments.first().map(String::as_str) {
+        Some("sample") => {
+            sample::print(seed);
+            return 0;
+        }
+        Some("report") => {
+            let report = generate::source::report(&mut Rng::new(seed), value("--rows").unwrap_or(200) as usize);
+            let tables = reference::access::tables(&report.prepare().expect("a report can be prepared"));
+            println!("{}", common::to_hex(&model::file::encode(&tables).expect("within the file's limits")));
+            return 0;
+        }
+        Some("sample-page") => {
+            sample::print_page(seed);
+            return 0;
+        }
+        _ => {}
+    }
+    let cases = value("--cases").unwrap_or(10_000);
+    let only = value("--document");
+    let start = Instant::now();
+    let mut shown = 0;
+    let mut comparer = Comparer { tally: Default::default(), ours: ours::linked() };
+    let mut progress = |comparer: &Comparer, of: &str| {
+        let seconds = start.elapsed().as_secs();
+        if seconds > shown {
+            shown = seconds;
+            let tally = &comparer.tally;
+            eprint!("\r{}{of} cases, {} differences, {seconds} s  ", tally.cases, tally.differences);
+        }
+    };
+    fixed_cases(&mut comparer);
+    if arguments.first().is_some_and(|word| word == "exhaustive") {
+        let nodes = value("--nodes").unwrap_or(3) as usize;
+        exhaustive::run(&mut comparer, nodes, &mut |comparer| progress(comparer, ""));
+        eprintln!();
+        println!("all documents of up to {nodes} nodes; all files one byte away from, or cut out of, the fixed ones");
+        report(&comparer, seed, start);
+        return i32::from(comparer.tally.differences > 0);
+    }
+    let of = format!(" of {cases}");
+    let mut index = only.unwrap_or(0);
+    let last = if only.is_some() { index } else { u64::MAX };
+    while comparer.tally.cases < cases && index <= last {
+        let before = comparer.tally.differences;
+        document(&mut comparer, seed, index);
+        if comparer.tally.differences > before {
+            println!("(that was --seed {seed} --document {index})");
+        }
+        if comparer.tally.differences >= 20 {
+            println!("stopped: enough differences");
+            break;
+        }
+        progress(&comparer, &of);
+        index += 1;
+    }
+    eprintln!();
+    report(&comparer, seed, start);
+    i32::from(comparer.tally.differences > 0)
+}
+
+fn report(comparer: &Comparer, seed: u64, start: Instant) {
+    let tally = &comparer.tally;
+    println!(
+        "seed {seed}: {} cases of {} documents in {:.1} s",
+        tally.cases,
+        tally.documents,
+        start.elapsed().as_secs_f64()
+    );
+    println!(
+        "by the reference {}, by our library {}",
+        tally.by_reference,
+        if comparer.ours.is_some() { tally.cases } else { 0 }
+    );
+    let answers: Vec<String> = (0..tally.answers.len())
+        .filter(|number| tally.answers[*number] > 0)
+        .map(|number| {
+            format!("{}: {}", if number == 0 { "page".to_string() } else { number.to_string() }, tally.answers[number])
+        })
+        .collect();
+    println!("answers {}", answers.join(", "));
+    println!(
+        "enumerated {} ({} layouts, {} with a tie for the least cost)",
+        tally.enumerated, tally.layouts, tally.ties
+    );
+    println!(
+        "documents made by prepare.rs {} (with {} choice lists), damaged files {}, texts not UTF-8 {}, overflow past 2^64 {}, limits just met and just missed {}",
+        tally.prepared, tally.prepared_lists, tally.damaged, tally.masked, tally.past_64, tally.limit_checks
+    );
+    println!(
+        "11 by reason: column {}, indent {}, overflow {}, burden {}; largest frontier {}; frontiers presented alone {}",
+        tally.reasons[0], tally.reasons[1], tally.reasons[2], tally.reasons[3], tally.peak_frontier, tally.presented
+    );
+    println!(
+        "writer's refusals 3, 4, 6 to 10: {:?}",
+        [3, 4, 6, 7, 8, 9, 10].map(|number| tally.writer_refusals[number])
+    );
+    println!("differences {}", tally.differences);
+}
+
+/// The fixed cases, on the model and on the reference, against what each must give.
+fn fixed_cases(comparer: &mut Comparer) {
+    for case in fixed::cases() {
+        let call = Call { file: &case.file, settings: case.settings, sizes: case.sizes, limits: case.limits };
+        let right = case.settings.width > 0 && case.settings.policy < 2;
+        let tables = model::file::read(&case.file).ok().filter(|_| right);
+        let document = tables.as_ref().map(reference::access::document);
+        let answer = comparer.call(&call, tables.as_ref().zip(document.as_ref()));
+        let met = match (&answer, &case.want) {
+            (Ok(page), fixed::Want::Page(bytes, overflow, burden, work)) => {
+                page.bytes == bytes.as_bytes()
+                    && page.overflow == *overflow
+                    && page.burden == *burden
+                    && work.is_none_or(|work| work == page.counts.work)
+            }
+            (Err(refusal), fixed::Want::Refused(number, needed, work)) => {
+                refusal.number == *number
+                    && refusal.needed == *needed
+                    && work.is_none_or(|work| work == refusal.counts.work)
+            }
+            _ => false,
+        };
+        if !met {
+            comparer.difference(case.name, &call, &common::describe(&answer), "not as it must be");
+        }
+    }
+}
+
+/// A random accepted document, as tables.
+pub fn accepted(rng: &mut Rng, tally: &mut compare::Tally) -> (Tables, Option<Profile>) {
+    if rng.chance(5) {
+        let source = if rng.chance(20) {
+            let rows = rng.within(1, 30) as usize;
+            generate::source::report(rng, rows)
+        } else {
+            generate::source::document(rng)
+        };
+        if let Ok(prepared) = source.prepare() {
+            tally.prepared += 1;
+            let tables = reference::access::tables(&prepared);
+            tally.prepared_lists += tables.nodes.iter().filter(|node| node.choice_length > 0).count() as u64;
+            return (tables, None);
+        }
+    }
+    let profile = rng.pick(&Profile::ALL);
+    (generate::files::tables(rng, profile), Some(profile))
+}
+
+fn document(comparer: &mut Comparer, seed: u64, index: u64) {
+    let mut rng = Rng::of_case(seed, index);
+    let rng = &mut rng;
+    comparer.tally.documents += 1;
+    comparer.present(rng);
+    if rng.chance(300) {
+        let tables = generate::bounds::tables(rng);
+        refused_alike(comparer, &tables);
+        let settings = generate::settings(rng, false);
+        damaged_file(
+            comparer,
+            &Call { file: &model::file::bytes(&tables), settings, sizes: Sizes::PAGE, limits: LIMITS },
+        );
+    }
+    let (tables, profile) = accepted(rng, &mut comparer.tally);
+    let settings = generate::settings(rng, profile.is_some_and(Profile::extreme));
+    let file = model::file::encode(&tables).expect("generated tables have the form");
+    let call = Call { file: &file, settings, sizes: PROBE, limits: LIMITS };
+    match model::file::read(&file) {
+        Ok(read) if read == tables => {}
+        other => comparer.difference("read after write", &call, &format!("{other:?}"), &format!("{tables:?}")),
+    }
+    writer(comparer, &call, &tables);
+    if rng.chance(4) {
+        damaged(comparer, rng, &call, &tables);
+    }
+    let reference = reference::access::document(&tables);
+    comparer.tally.masked += u64::from(reference.masked);
+    let both = Some((&tables, &reference));
+    // Without the reference: what is needed, as far as the limits let it come.
+    let (probe, trace) = model::render(&tables, &settings, &PROBE, &LIMITS);
+    let exact = Sizes::of(trace.needs.map(|need| need.min(u64::from(u32::MAX)) as u32));
+    if let Ok(page) = &probe {
+        comparer.tally.past_64 += u64::from(page.overflow >> 64 > 0);
+    }
+    if number(&probe) == 12 {
+        // Too much work for a run to the end: only sizes that stop it before.
+        for _ in 0..3 {
+            let sizes = Sizes::of(exact.list().map(|size| rng.within(0, size / 2)));
+            let _ = comparer.call(&Call { sizes, ..call }, both);
+        }
+        return;
+    }
+    // Too many visits: the reference has no limit for them, so it is stopped at the first.
+    let exact = if number(&probe) == 22 { Sizes { visit: 0, ..exact } } else { exact };
+    let answer = comparer.call(&Call { sizes: exact, ..call }, both);
+    if answer != probe && !matches!(number(&probe), 20 | 22) {
+        comparer.difference("the same at exact sizes", &call, &format!("{answer:?}"), &format!("{probe:?}"));
+    }
+    comparer.enumerate(&call, &tables, &answer);
+    // One below, at, one above the need of one kind or of several.
+    let kinds: Vec<usize> = (0..9).filter(|kind| exact.list()[*kind] > 0).collect();
+    for _ in 0..3 {
+        let mut list = exact.list();
+        let kind = rng.pick(&kinds);
+        list[kind] -= 1;
+        let _ = comparer.call(&Call { sizes: Sizes::of(list), ..call }, both);
+    }
+    if kinds.len() > 1 {
+        let mut list = exact.list();
+        for _ in 0..2 {
+            let kind = rng.pick(&kinds);
+            list[kind] = list[kind].saturating_sub(1);
+        }
+        let _ = comparer.call(&Call { sizes: Sizes::of(list), ..call }, both);
+    }
+    let list = exact.list().map(|size| (size + rng.within(0, 2)).saturating_sub(rng.chance(6) as u32));
+    let _ = comparer.call(&Call { sizes: Sizes::of(list), ..call }, both);
+    let list = exact.list().map(|size| if rng.chance(3) { rng.within(0, size) } else { size + rng.within(0, 1) });
+    let _ = comparer.call(&Call { sizes: Sizes::of(list), ..call }, both);
+    if rng.chance(3) {
+        comparer.page(&call);
+        let _ = comparer.call(&Call { sizes: Sizes::PAGE, ..call }, both);
+    }
+    limits(comparer, rng, &Call { sizes: exact, ..call }, both, &answer);
+}
+
+/// The writer gives the file, and needs exactly its length.
+fn writer(comparer: &mut Comparer, call: &Call, tables: &Tables) {
+    let length = call.file.len() as u64;
+    let exactly = comparer.write(tables, length);
+    if exactly.as_deref() != Ok(call.file) {
+        comparer.difference("written file", call, &format!("{exactly:?}"), "");
+    }
+    let short = comparer.write(tables, length - 1);
+    if short != Err(model::file::WriteRefusal { number: 20, needed: length }) {
+        comparer.difference("written short", call, &format!("{short:?}"), "");
+    }
+}
+
+fn damaged(comparer: &mut Comparer, rng: &mut Rng, call: &Call, tables: &Tables) {
+    let file = match rng.below(3) {
+        0 => {
+            let tables = generate::damage::tables(rng, tables);
+            refused_alike(comparer, &tables);
+            model::file::bytes(&tables)
+        }
+        _ => generate::damage::file(rng, call.file),
+    };
+    comparer.tally.damaged += 1;
+    let mut settings = call.settings;
+    match rng.below(12) {
+        0 => settings.width = 0,
+        1 => settings.policy = rng.pick(&[2, 3, u32::MAX]),
+        _ => {}
+    }
+    damaged_file(comparer, &Call { file: &file, sizes: Sizes::PAGE, settings, ..*call });
+}
+
+/// The writer's verdict on any tables is the reader's on their bytes.
+fn refused_alike(comparer: &mut Comparer, tables: &Tables) {
+    let file = model::file::bytes(tables);
+    let written = comparer.write(tables, 1 << 20);
+    let read = model::file::read(&file);
+    if let Err(refusal) = &written {
+        comparer.tally.writer_refusals[refusal.number as usize] += 1;
+    }
+    if written.as_ref().map_err(|refusal| refusal.number).map(|_| ())
+        != read.as_ref().map(|_| ()).map_err(|number| *number)
+    {
+        comparer.tally.differences += 1;
+        println!("DIFFERENCE: writer, reader\n{}\n{written:?}\n{read:?}", common::to_hex(&file));
+    }
+}
+
+/// A damaged file is refused, or it is another accepted file: then it is the one that its tables write, and the reference answers.
+fn damaged_file(comparer: &mut Comparer, call: &Call) {
+    let read = model::file::read(call.file);
+    let right = call.settings.width > 0 && call.settings.policy < 2;
+    let (Ok(tables), true) = (&read, right) else {
+        let _ = comparer.call(call, None);
+        return;
+    };
+    let again = comparer.write(tables, call.file.len() as u64);
+    if again.as_deref() != Ok(call.file) {
+        comparer.difference("write after read", call, &format!("{again:?}"), "");
+    }
+    let _ = comparer.call(call, Some((tables, &reference::access::document(tables))));
+}
+
+/// The work and visit limits, on the model (the reference has none) and on ours: just met, just missed.
+fn limits(
+    comparer: &mut Comparer,
+    rng: &mut Rng,
+    call: &Call,
+    both: Option<(&Tables, &reference::access::Document)>,
+    answer: &common::Answer,
+) {
+    if !rng.chance(4) {
+        return;
+    }
+    comparer.tally.limit_checks += 1;
+    let counts = compare::counts(answer);
+    let met = Limits { work: counts.work, visits: counts.visits };
+    if number(answer) != 22 && comparer.call(&Call { limits: met, ..*call }, both) != *answer {
+        comparer.difference("limits just met", call, &format!("{answer:?}"), "");
+    }
+    if counts.work > 0 {
+        let missed = comparer.call(&Call { limits: Limits { work: counts.work - 1, ..met }, ..*call }, None);
+        if number(&missed) != 12 || compare::counts(&missed).work != counts.work - 1 {
+            comparer.difference("work limit just missed", call, &format!("{answer:?}"), &format!("{missed:?}"));
+        }
+    }
+    if counts.visits > 0 {
+        let missed = comparer.call(&Call { limits: Limits { visits: counts.visits - 1, ..met }, ..*call }, None);
+        if number(&missed) != 22 || compare::counts(&missed).visits != counts.visits - 1 {
+            comparer.difference("visit limit just missed", call, &format!("{answer:?}"), &format!("{missed:?}"));
+        }
+    }
+    let random = Limits { work: rng.below(counts.work + 1), visits: rng.below(counts.visits + 1) };
+    let _ = comparer.call(&Call { limits: random, ..*call }, None);
+}

@@ -1,0 +1,104 @@
+//! The reference: kernel.rs, prepare.rs and cost.rs, compiled where they stand and unchanged, with access code beside them.
+#![allow(dead_code)]
+
+pub mod doc;
+
+#[path = "../../../../shared/docs/src/src/cost.rs"]
+pub mod cost;
+
+#[path = "../../../../shared/docs/src/src/prepare.rs"]
+pub mod prepare;
+
+splice::module_from! { "../../../shared/docs/src/src/kernel.rs" => pub mod kernel {
+    /// Code of the harness inside the reference's module, where it sees the private items. It calls them and alters none.
+    pub mod access {
+        use super::*;
+        use crate::prepare::PreparedDoc;
+
+        /// The statistics where the solver stops with `CostDomainViolation`, which carries none: the loop of `ExactSolver::solve`
+        /// over the reference's own steps.
+        pub fn stats_at_domain_violation<A>(
+            prepared: &PreparedDoc<A>,
+            options: RenderOptions,
+            workspace: &mut RenderWorkspace,
+        ) -> Option<SolveStats> {
+            workspace.reset_operation();
+            let mut solver = ExactSolver::new(&prepared.0, options, workspace);
+            let root = ExactTask::Eval { node: solver.data.root, column: 0, indent: 0 };
+            let mut result = solver.push_exact_task(root);
+            while result.is_ok() {
+                let Some(task) = solver.workspace.exact_work.pop() else { break };
+                result = solver.execute_task(task);
+            }
+            match result {
+                Err(RenderError::CostDomainViolation) => Some(solver.stats),
+                _ => None,
+            }
+        }
+
+        /// The items that the materializer takes off its stack for a page: one for each plan on the way, two for an Annotate.
+        pub fn visits<A>(rendered: &RenderedRef<'_, '_, A>) -> u64 {
+            let mut stack = vec![rendered.core.root];
+            let mut visits = 0u64;
+            while let Some(plan) = stack.pop() {
+                visits += 1;
+                match rendered.workspace.plan(plan) {
+                    PlanNode::Empty | PlanNode::Text(_) | PlanNode::Newline { .. } => {}
+                    PlanNode::Concat { left, right } => stack.extend([right, left]),
+                    PlanNode::Annotate { child, .. } => {
+                        visits += 1;
+                        stack.push(child);
+                    }
+                    PlanNode::Penalty { child, .. } => stack.push(child),
+                }
+            }
+            visits
+        }
+
+        pub fn memo_hash(node: u32, column: u32, indent: u32) -> u64 {
+            super::memo_hash(MemoKey { node, column, indent })
+        }
+
+        pub fn memo_slots_for(entries: usize) -> Option<usize> {
+            super::memo_slots_for(entries).ok()
+        }
+
+        /// What the builder of a frontier does with candidates (column, overflow, burden) in order: the survivors, in order, by their
+        /// number of presentation; generated, pruned; and the tree in pre-order as (column, height).
+        #[allow(clippy::type_complexity)]
+        pub fn present_all(list: &[(u32, u128, u64)]) -> (Vec<usize>, u64, u64, Vec<(u32, u16)>) {
+            let data: PreparedData<()> = crate::access::empty_data();
+            let exact = ExactSolveCapacity::new(0, 0, list.len(), 0);
+            let capacity = RenderCapacity { exact, ..RenderCapacity::default() };
+            let mut workspace = RenderWorkspace::fixed(capacity).expect("room");
+            let options = RenderOptions::new(NonZeroU32::MIN);
+            let mut solver = ExactSolver::new(&data, options, &mut workspace);
+            solver.begin_builder();
+            for (index, (last, overflow, burden)) in list.iter().enumerate() {
+                let cost = ConsumerCost { overflow: *overflow, burden: *burden };
+                let plan = PendingPlan::Existing(PlanId(index as u32));
+                solver.present(ScratchCandidate { cost, last: *last, precedence: 0, plan }).expect("room");
+            }
+            let mut survivors = Vec::new();
+            let mut cursor = solver.workspace.scratch_head;
+            while let Some(slot) = cursor {
+                let slot = &solver.workspace.scratch[slot as usize];
+                survivors.push(slot.candidate.precedence as usize);
+                cursor = slot.precedence_next;
+            }
+            let mut tree = Vec::new();
+            let mut stack = vec![solver.workspace.scratch_root];
+            while let Some(slot) = stack.pop() {
+                if let Some(slot) = slot {
+                    let slot = &solver.workspace.scratch[slot as usize];
+                    tree.push((slot.candidate.last, slot.height));
+                    stack.push(slot.right);
+                    stack.push(slot.left);
+                }
+            }
+            (survivors, solver.stats.candidates_generated, solver.stats.candidates_pruned, tree)
+        }
+    }
+} }
+
+pub mod access;
