@@ -1,0 +1,7 @@
+-- Definitions: Candidates, Chain, Kept. Theorems: Walk, Letter, Cases.
+pub mod Candidates
+pub mod Chain
+pub mod Kept
+pub mod Walk
+pub mod Letter
+pub mod Cases
