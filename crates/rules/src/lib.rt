@@ -1,0 +1,122 @@
+// The refusals 6 to 10 of a prepared file, over its tables.
+ghost use mathlib.Core.Path.{_≡_};
+ghost use Prim.Native.Nat.{ℕ, _≤_, _<_};
+ghost use lib.ListN.{length};
+ghost use Rattle.rules.specs.Descent.{Closed};
+ghost use Rattle.rules.specs.Search.{ListsInside, GraphJudged};
+ghost use Rattle.rules.specs.Judged.{tables, front, Lent, Formed, Judged};
+use crate::circle::circle;
+use crate::lists::lists_right;
+use crate::names::references;
+use crate::texts::space_ok;
+use crate::texts::texts_ok;
+use tables::NodeId;
+use tables::TextId;
+
+pub mod circle;
+pub mod lists;
+pub mod names;
+pub mod row;
+pub mod texts;
+
+// How many there are of each.
+pub struct Counts {
+    pub nodes: usize,
+    pub edges: usize,
+    pub choices: usize,
+    pub texts: usize,
+    pub annotations: u32,
+}
+
+// 9, 10 or 0.
+fn judge_graph(
+    nodes: &[[u32; 8]],
+    edges: &[u32],
+    choices: &[u32],
+    colours: &mut [u8],
+    stack: &mut [u32],
+) -> u32
+    requires { ⌜ length (now nodes) ≤ 4096 ⌝ }
+    requires { ⌜ Closed (now nodes) (now edges) ⌝ }
+    requires { ⌜ ListsInside (now nodes) (now choices) ⌝ }
+    requires { ⌜ length (now nodes) ≤ length (now colours) ⌝ }
+    requires { ⌜ length (now choices) ≤ length (now stack) ⌝ }
+    ensures { λ r. ⌜ GraphJudged (now (nodes .entry)) (now (edges .entry)) (now (choices .entry)) r ⌝ }
+{
+    if circle(nodes, edges, colours) {
+        return 9;
+    }
+    if !lists_right(nodes, choices, stack) {
+        return 10;
+    }
+    0
+}
+
+// The first refusal of 6 to 10, or 0. Of the working memory, `colours` has a place for each node and `stack` one for each choice edge;
+// what stands there at entry does not matter.
+pub fn judge(
+    nodes: &[[u32; 8]],
+    edges: &[u32],
+    choices: &[u32],
+    texts: &[[u32; 3]],
+    bytes: &[u8],
+    annotations: u32,
+    root: NodeId,
+    space: TextId,
+    colours: &mut [u8],
+    stack: &mut [u32],
+) -> u32
+    requires { ⌜ Formed (tables (now nodes) (now edges) (now choices) (now texts) (now bytes) annotations (root .0) (space .0)) ⌝ }
+    requires { ⌜ length (now nodes) ≤ length (now colours) ⌝ }
+    requires { ⌜ length (now choices) ≤ length (now stack) ⌝ }
+    ensures { λ r. ⌜ Judged (tables (now (nodes .entry)) (now (edges .entry)) (now (choices .entry)) (now (texts .entry)) (now (bytes .entry)) annotations (root .0) (space .0)) r ⌝ }
+{
+    if !references(nodes, edges, choices, texts, annotations, root, space) {
+        return 6;
+    }
+    if !texts_ok(texts, bytes) {
+        return 7;
+    }
+    if !space_ok(texts, bytes, space) {
+        return 8;
+    }
+    judge_graph(nodes, edges, choices, colours, stack)
+}
+
+// The same of lent memory that may be longer than the tables in it.
+pub fn judge_front(
+    nodes: &[[u32; 8]],
+    edges: &[u32],
+    choices: &[u32],
+    texts: &[[u32; 3]],
+    bytes: &[u8],
+    n: Counts,
+    total: usize,
+    root: NodeId,
+    space: TextId,
+    colours: &mut [u8],
+    stack: &mut [u32],
+) -> u32
+    requires { ⌜ Lent n total (now nodes) (now edges) (now choices) (now texts) (now bytes) ⌝ }
+    requires { ⌜ Formed (front n total (now nodes) (now edges) (now choices) (now texts) (now bytes) (root .0) (space .0)) ⌝ }
+    requires { ⌜ n .nodes ≤ length (now colours) ⌝ }
+    requires { ⌜ n .choices ≤ length (now stack) ⌝ }
+    ensures { λ r. ⌜ Judged (front n total (now (nodes .entry)) (now (edges .entry)) (now (choices .entry)) (now (texts .entry)) (now (bytes .entry)) (root .0) (space .0)) r ⌝ }
+{
+    let node_count = n.nodes;
+    let edge_count = n.edges;
+    let choice_count = n.choices;
+    let text_count = n.texts;
+    judge(
+        &nodes[..node_count],
+        &edges[..edge_count],
+        &choices[..choice_count],
+        &texts[..text_count],
+        &bytes[..total],
+        n.annotations,
+        root,
+        space,
+        colours,
+        stack,
+    )
+}
