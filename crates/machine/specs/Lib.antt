@@ -1,0 +1,11 @@
+pub mod Events
+pub mod Model
+pub mod Solver
+pub mod Solve
+pub mod Materializer
+pub mod Answer
+pub mod Programs
+pub mod Larger
+pub mod Enough
+pub mod Balance
+pub mod Cases

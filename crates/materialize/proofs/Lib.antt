@@ -1,0 +1,8 @@
+pub mod Runs
+pub mod Moves
+pub mod Turns
+pub mod Passes
+pub mod Fills
+pub mod Parts
+pub mod Written
+pub mod Uses

@@ -1,0 +1,137 @@
+-- The first pass: what holds between its turns, and what it comes to.
+use mathlib.Core.Path.{_≡_, refl, sym, ap, subst, _∙_}
+use mathlib.Core.List.{List, [], _∷_, append-nil}
+use Prim.Native.Nat.{ℕ, zero, suc, _+_, _≤_, _<_}
+use native.Mathlib.Omega.{arith}
+use native.Mathlib.Numerals.{add-one}
+use lib.ListN.{length, length-append, set, replicate, length-replicate}
+use lib.Seq.{getD-set-same}
+use mathlib.Core.Option.{none}
+use Rattle.tables.specs.Tables.{byte-length, byte-start}
+use Rattle.layout.specs.Layout.{Plan, page}
+use Rattle.layout.specs.Spans.{spans}
+use Rattle.machine.specs.Events.{Bounds, Counts, no-counts, visit, Need, ret, emit, _>>_, run}
+use Rattle.machine.specs.Materializer.{marks, visit-plan, materialize}
+use Rattle.materialize.specs.declared.Capacity.{Capacity}
+use Rattle.materialize.specs.declared.Exhausted.{Exhausted}
+use Rattle.materialize.specs.declared.Exhausted.the-variants.{Visit}
+use Rattle.materialize.specs.declared.Walk.{Walk}
+use Rattle.materialize.specs.declared.Act.{Act}
+use Rattle.materialize.specs.declared.Visited.{Visited}
+use Rattle.materialize.specs.declared.Visited.the-variants.{Went, Stopped}
+use Rattle.materialize.specs.declared.Measured.the-variants.{Page, Refused}
+use Rattle.materialize.specs.Rows.{Row}
+use Rattle.materialize.specs.Texts.{text-row, InBytes}
+use Rattle.materialize.specs.Answer.{with-visits, told, Agrees}
+use Rattle.materialize.specs.Walks.{Around, limits, ran, pile, works, plan, ahead, pages, marks-in, puts, Sound, Walked, Turned, Answered}
+use Rattle.materialize.proofs.Runs.{Program, need-go, need-stop}
+use Rattle.materialize.proofs.Moves.{spans-length}
+
+-- ---- texts lie among some bytes, and some bounds and counts are around
+
+reach : List Row → ℕ
+reach [] = 0
+reach (r ∷ X) = byte-start r + byte-length r + reach X
+
+reach-le : (X : List Row) (t : ℕ) → t < length X → byte-start (text-row X t) + byte-length (text-row X t) ≤ reach X
+unfolding reach
+reach-le [] t h = absurd (omega arith)
+reach-le (r ∷ X) zero h = omega arith
+reach-le (r ∷ X) (suc t) h = omega (arith, reach-le X t (omega arith))
+
+pub some-bytes : List Row → List ℕ
+some-bytes X = replicate (reach X) 0
+
+pub in-some : (X : List Row) → InBytes X (some-bytes X)
+unfolding some-bytes
+in-some X = record { within = λ t h. omega (arith, reach-le X t h, length-replicate {A = ℕ} (reach X) 0) }
+
+pub some-around : Around
+some-around = record {
+  bounds = record { stack = 0; memo = 0; kept = 0; frontier = 0; plans = 0; visit = 0; depth = 0; output = 0; spans = 0; work-limit = 0; visit-limit = 0 };
+  counts = no-counts;
+}
+
+-- bounds that agree, and counts without visits
+limits-is : (c : Capacity) (b : Bounds) → Agrees c b → limits c b ≡ b
+limits-is c b a = rw (← a .visit, ← a .depth, ← a .output, ← a .spans, ← a .visit-limit)
+
+pub agreed : (c : Capacity) (b : Bounds) (k : Counts) (p : Program) → Agrees c b → k .visits ≡ 0 → ran c (record { bounds = b; counts = k }) 0 p ≡ run b k p
+unfolding ran
+agreed c b k p a z = ap (λ (x : Bounds). run x (with-visits k 0) p) (limits-is c b a) ∙ ap (λ (v : ℕ). run b (with-visits k v) p) (sym z)
+
+-- ---- a turn's promise, by what it answers
+
+pub turned-went : (c : Capacity) (o : Around) (P X : List Row) (bytes e x : List ℕ) (w z : Walk) (a : Act) (r : Visited) → Turned c o P X bytes e w x r → r ≡ Went z a
+    → Walked c o P X bytes (pile e (w .top)) w (pile x (z .top)) z a
+turned-went c o P X bytes e x w z a r h q = subst (λ (s : Visited). Turned c o P X bytes e w x s) q h
+
+pub turned-stopped : (c : Capacity) (o : Around) (P X : List Row) (bytes e x : List ℕ) (w : Walk) (n : Exhausted) (m k : ℕ) (r : Visited)
+    → Turned c o P X bytes e w x r → r ≡ Stopped n m k
+    → ran c o (w .visits) (ahead (works (plan P X bytes) (pile e (w .top))) w) ≡ told (o .counts) (Refused n m k)
+turned-stopped c o P X bytes e x w n m k r h q = subst (λ (s : Visited). Turned c o P X bytes e w x s) q h
+
+-- ---- between the turns
+
+pub record Along (c : Capacity) (o : Around) (P X : List Row) (bytes : List ℕ) (root : ℕ) (S : List ℕ) (w : Walk) : Type 0 where
+  pub leads : ran c o 0 (materialize (plan P X bytes root)) ≡ ran c o (w .visits) (ahead (works (plan P X bytes) S) w)
+  pub sized : w .at + length (pages (works (plan P X bytes) S)) ≡ length (page (plan P X bytes root))
+  pub counted : w .spans + marks-in (works (plan P X bytes) S) ≡ marks (plan P X bytes root)
+
+abbrev pub begin : Walk
+begin = record { top = 1; depth = 0; at = 0; spans = 0; visits = 0 }
+
+whole : (p : Plan) → materialize p ≡ emit (Need visit 1) (visit-plan p 0 0 0 0)
+unfolding materialize
+whole p = refl
+
+then-nothing : (m : Program) → (m >> ret tt) ≡ m
+then-nothing (ret a) = refl
+then-nothing (emit e m) = ap (emit e) (then-nothing m)
+
+pub first-pile : (e : List ℕ) (root : ℕ) → 0 < length e → pile (set e 0 (root + 1)) 1 ≡ suc root ∷ []
+first-pile e root h = ap (λ (x : ℕ). x ∷ []) (getD-set-same e 0 (root + 1) 0 h ∙ add-one root)
+
+pub sound-begin : (c : Capacity) (n : ℕ) (e : List ℕ) (root : ℕ) → 0 < c .visit → 0 < length e → root < n → Sound c n (pile (set e 0 (root + 1)) 1) begin
+sound-begin c n e root v h r =
+    rw (first-pile e root h)
+    (record { top-le = omega arith; at-le = omega arith; visits-le = omega arith; spans-le = omega arith; depth-le = omega arith; depth-is = refl; valid = (omega arith, tt) })
+
+pub along-begin : (c : Capacity) (o : Around) (P X : List Row) (bytes : List ℕ) (root : ℕ) (e : List ℕ) → 0 < c .visit → 0 < length e
+    → Along c o P X bytes root (pile (set e 0 (root + 1)) 1) begin
+along-begin c o P X bytes root e v h =
+    let p = plan P X bytes root in
+    rw (first-pile e root h)
+    (record {
+      leads = ap (ran c o 0) (whole p) ∙ (need-go c o visit 0 1 (visit-plan p 0 0 0 0) (omega arith) ∙ ap (ran c o 0) (sym (then-nothing (visit-plan p 0 0 0 0))));
+      sized = rw (append-nil (page p)) (omega arith);
+      counted = omega arith;
+    })
+
+pub along-step : {c : Capacity} {o : Around} {P X : List Row} {bytes : List ℕ} {root : ℕ} {S U : List ℕ} {w z : Walk} {a : Act}
+    → Along c o P X bytes root S w → Walked c o P X bytes S w U z a → Along c o P X bytes root U z
+along-step {P = P} {X = X} {bytes = bytes} {U = U} {a = a} h g =
+    let m = g .moved in
+    record {
+      leads = h .leads ∙ m .leads;
+      sized = omega (arith, h .sized, ap length (m .put), length-append (puts bytes a) (pages (works (plan P X bytes) U)), m .at-is);
+      counted = m .marked ∙ h .counted;
+    }
+
+-- ---- what it comes to
+
+pub along-end : (c : Capacity) (P X : List Row) (bytes : List ℕ) (root : ℕ) (e : List ℕ) (w : Walk) → ((o : Around) → Along c o P X bytes root (pile e (w .top)) w) → w .top ≡ 0
+    → Answered c (plan P X bytes root) (Page (w .at) (w .spans) (w .visits))
+unfolding ran
+along-end c P X bytes root e w h q =
+    let k : (o : Around) → Along c o P X bytes root [] w = λ o. subst (λ (n : ℕ). Along c o P X bytes root (pile e n) w) q (h o) in
+    let f : w .at ≡ length (page (plan P X bytes root)) = omega (arith, k some-around .sized) in
+    let g : w .spans ≡ marks (plan P X bytes root) = omega (arith, k some-around .counted) in
+    record { answer = λ o. sym (k o .leads); sized = (f, g ∙ sym (spans-length (plan P X bytes root) 0 none 0)) }
+
+pub along-stop : (c : Capacity) (P X : List Row) (bytes : List ℕ) (root : ℕ) (S : List ℕ) (w : Walk) (n : Exhausted) (m k : ℕ) → ((o : Around) → Along c o P X bytes root S w)
+    → ((o : Around) → ran c o (w .visits) (ahead (works (plan P X bytes) S) w) ≡ told (o .counts) (Refused n m k)) → Answered c (plan P X bytes root) (Refused n m k)
+along-stop c P X bytes root S w n m k h q = record { answer = λ o. sym (h o .leads ∙ q o); sized = tt }
+
+pub none-fits : (c : Capacity) (p : Plan) → c .visit ≡ 0 → Answered c p (Refused Visit 1 0)
+none-fits c p h = record { answer = λ o. sym (ap (ran c o 0) (whole p) ∙ need-stop c o visit 0 1 (visit-plan p 0 0 0 0) (omega arith)); sized = tt }

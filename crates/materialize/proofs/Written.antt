@@ -1,0 +1,189 @@
+-- The second pass: what holds between its turns, and what it comes to.
+use mathlib.Core.Path.{_≡_, refl, sym, ap, ap₂, subst, _∙_}
+use mathlib.Core.Bool.{Bool, true, false}
+use mathlib.Core.List.{List, [], _++_, append-nil, append-assoc}
+use Prim.Native.Nat.{ℕ, zero, suc, _+_, _≤_, _<_, _^_}
+use native.Mathlib.Omega.{arith}
+use borrow.Author.Tests.{leb-true, leb-false}
+use lib.Dec.{leb}
+use lib.ListN.{length, length-append, length-drop, length-replicate, getD, set, take, drop, take-append-drop}
+use lib.Seq.{length-take-le, take-at, drop-at, getD-take}
+use Rattle.layout.specs.Layout.{Plan, page}
+use Rattle.plan.specs.Arena.{arena}
+use Rattle.machine.specs.Events.{Out, Why, Counts, done, stop}
+use Rattle.machine.specs.Materializer.{materialize}
+use Rattle.materialize.specs.declared.Capacity.{Capacity}
+use Rattle.materialize.specs.declared.Exhausted.{Exhausted}
+use Rattle.materialize.specs.declared.Walk.{Walk}
+use Rattle.materialize.specs.declared.Act.{Act}
+use Rattle.materialize.specs.declared.Act.the-variants.{Pass, Put, Line, Open, Close}
+use Rattle.materialize.specs.declared.Visited.{Visited}
+use Rattle.materialize.specs.declared.Visited.the-variants.{Stopped}
+use Rattle.materialize.specs.declared.Measured.{Measured}
+use Rattle.materialize.specs.declared.Measured.the-variants.{Page}
+use Rattle.materialize.specs.Rows.{Row, span-rows, Fits}
+use Rattle.materialize.specs.Texts.{layout, Planned}
+use Rattle.materialize.specs.Answer.{over, after, Fitting, Materialized}
+use Rattle.materialize.specs.Walks.{pile, works, plan, pages, ends, puts, Room, Sound, Walked, Turned, Answered}
+use Rattle.materialize.specs.Writes.{wrote, Under, held-after, spans-after, ActFits, Allowed, Passes, Written, Writing}
+use Rattle.materialize.proofs.Parts.{under-more, open-is, top-under, rows-is, past-is, spans-rise, under-is, rows-fit, drop-later}
+use Rattle.materialize.proofs.Passes.{some-around, agreed, turned-stopped, begin, first-pile, along-begin, none-fits}
+
+module _ {c : Capacity} {P X : List Row} {bytes : List ℕ} {root : ℕ} {S U : List ℕ} {w z : Walk} {a : Act} {out₀ out o : List ℕ} {s₀ s : List Row}
+    (h : Writing c P X bytes root S w out₀ out o s₀ s) (g : Walked c (h .around) P X bytes S w U z a) (sd : Sound c (length P) S w)
+    (lo : c .output ≤ length out) (lh : c .depth ≤ length o) (ls : c .spans ≤ length s) where
+  abbrev bs : List ℕ
+  bs = puts bytes a
+
+  abbrev head : List ℕ
+  head = take (w .at) out ++ bs
+
+  head-length : length head ≡ z .at
+  head-length =
+      length-append (take (w .at) out) bs
+      ∙ (ap (λ (n : ℕ). n + length bs) (length-take-le (w .at) out (omega (arith, sd .at-le))) ∙ sym (g .moved .at-is))
+
+  joined : wrote bs (w .at) out ≡ head ++ drop (w .at + length bs) out
+  joined = sym (append-assoc (take (w .at) out) bs (drop (w .at + length bs) out))
+
+  pub writing-step : c .spans < 2 ^ 32 → ActFits a → Writing c P X bytes root U z out₀ (wrote bs (w .at) out) (held-after a w o) s₀ (spans-after a w o s)
+  writing-step sf af =
+      let m = g .moved in
+      let so = open-is w z o s bytes a (m .room) (omega (arith, sd .depth-le)) (omega (arith, g .sound .depth-le)) in
+      let sr = rows-is w z o s bytes a (m .room) (omega (arith, g .sound .spans-le)) (h .below) in
+      let ln : length (take (w .spans) s) ≡ w .spans = length-take-le (w .spans) s (omega (arith, sd .spans-le)) in
+      record {
+        around = h .around;
+        visits = h .visits;
+        passes = sym (m .leads) ∙ h .passes;
+        page-is =
+            ap (λ (l : List ℕ). take (z .at) l ++ pages (works (plan P X bytes) U)) joined
+            ∙ (ap (λ (l : List ℕ). l ++ pages (works (plan P X bytes) U)) (take-at head (drop (w .at + length bs) out) (z .at) head-length)
+            ∙ (append-assoc (take (w .at) out) bs (pages (works (plan P X bytes) U))
+            ∙ (ap (λ (l : List ℕ). take (w .at) out ++ l) (sym (m .put)) ∙ h .page-is)));
+        page-past =
+            ap (drop (z .at)) joined
+            ∙ (drop-at head (drop (w .at + length bs) out) (z .at) head-length
+            ∙ (ap (λ (n : ℕ). drop n out) (sym (m .at-is)) ∙ drop-later (w .at) (z .at) out out₀ (omega (arith, m .at-is)) (h .page-past)));
+        spans-is =
+            ap₂ (λ (x : List ℕ) (y : List Row). ends (works (plan P X bytes) U) x (z .at) y) so sr
+            ∙ (sym (m .spanned (pile o (w .depth)) (take (w .spans) s) ln) ∙ h .spans-is);
+        spans-past = past-is w z o s bytes a (m .room) (h .below) ∙ drop-later (w .spans) (z .spans) s s₀ (spans-rise w z o s bytes a (m .room)) (h .spans-past);
+        fits = rows-fit w z o s bytes a (m .room) (omega (arith, sd .spans-le)) (omega (arith, sd .spans-le)) (omega (arith, g .sound .spans-le)) (h .below) (h .fits) af;
+        below = subst (λ (l : List ℕ). Under (z .spans) l) (sym so) (under-is w z o s bytes a (m .room) (h .below));
+      }
+
+  allowed-by : (x : Act) → Room x (length bytes) w z → z .at ≡ w .at + length (puts bytes x) → z .at ≤ length out → w .spans < 2 ^ 32 → Allowed x w bytes o out s
+  allowed-by Pass r e l v = tt
+  allowed-by (Put t n) r e l v =
+      let q : length (take n (drop t bytes)) ≡ n = length-take-le n (drop t bytes) (omega (arith, length-drop t bytes, r .2)) in
+      (r .2, omega (arith, q))
+  allowed-by (Line i) r e l v = omega (arith, length-replicate {A = ℕ} i 32)
+  allowed-by (Open k) r e l v =
+      (omega (arith, r .1, g .sound .depth-le), omega (arith, r .0, g .sound .spans-le), under-more (w .spans) (2 ^ 32) (pile o (w .depth)) (omega arith) (h .below))
+  allowed-by Close r e l v =
+      (omega (arith, r .1), omega (arith, sd .depth-le), omega (arith, top-under w z o s bytes r (h .below), sd .spans-le))
+
+  pub allowed : c .spans < 2 ^ 32 → Allowed a w bytes o out s
+  allowed v = allowed-by a (g .moved .room) (g .moved .at-is) (omega (arith, g .sound .at-le)) (omega (arith, sd .spans-le))
+
+never : (k : Counts) (w : Why) (m : ℕ) (j : Counts) → _≡_ {A = Out (Unit {0})} (done k tt) (stop w m j) → ⊥
+never k w m j e = let z : _≡_ {A = ℕ} 0 1 = cc in omega arith
+
+-- a layout that passes does not stop
+pub no-stop : {c : Capacity} {P X : List Row} {bytes : List ℕ} {root : ℕ} {w : Walk} {out₀ out o : List ℕ} {s₀ s : List Row} (e x : List ℕ) (r : Visited)
+    (h : Writing c P X bytes root (pile e (w .top)) w out₀ out o s₀ s) {n : Exhausted} {m k : ℕ} → Turned c (h .around) P X bytes e w x r → r ≡ Stopped n m k → ⊥
+no-stop {c} {P} {X} {bytes} {root} {w} e x r h {n} {m} {k} t q = never _ _ _ _ (sym (h .passes) ∙ turned-stopped c (h .around) P X bytes e x w n m k r t q)
+
+pub some-visit : (c : Capacity) (p : Plan) → Passes c p → 0 < c .visit
+some-visit c p h = go (leb 1 (c .visit)) refl
+  where
+    go : (t : Bool) → leb 1 (c .visit) ≡ t → 0 < c .visit
+    go true e = omega (arith, leb-true 1 (c .visit) e)
+    go false e =
+        let z : c .visit ≡ 0 = omega (arith, leb-false 1 (c .visit) e) in
+        absurd (never _ _ _ _ (sym (h .passed) ∙ sym (none-fits c p z .answer (h .around))))
+
+pub writing-begin : (c : Capacity) (P X : List Row) (bytes : List ℕ) (root : ℕ) (e out o : List ℕ) (s : List Row) (h : Passes c (plan P X bytes root)) → 0 < length e
+    → Writing c P X bytes root (pile (set e 0 (root + 1)) 1) begin out out o s s
+writing-begin c P X bytes root e out o s h l =
+    let p = plan P X bytes root in
+    let al = along-begin c (h .around) P X bytes root e (some-visit c p h) l in
+    let am = rw (first-pile e root l) at al in
+    rw (first-pile e root l)
+    (record {
+      around = h .around;
+      visits = h .visits;
+      passes = sym (am .leads) ∙ h .passed;
+      page-is = append-nil (page p);
+      page-past = refl;
+      spans-is = refl;
+      spans-past = refl;
+      below = tt;
+      fits = λ k n. absurd (omega arith);
+    })
+
+over-is : {A : Type 0} (n : ℕ) (l l₀ xs : List A) → n ≤ length l → take n l ≡ xs → drop n l ≡ drop n l₀ → l ≡ over xs l₀
+over-is n l l₀ xs h e q =
+    let m : length xs ≡ n = sym (ap length e) ∙ length-take-le n l h in
+    sym (take-append-drop n l) ∙ (ap₂ _++_ e q ∙ ap (λ (k : ℕ). xs ++ drop k l₀) (sym m))
+
+module _ {c : Capacity} {P X : List Row} {bytes : List ℕ} {root : ℕ} {w : Walk} {out₀ out o : List ℕ} {s₀ s : List Row} (e : List ℕ)
+    (h : Writing c P X bytes root (pile e (w .top)) w out₀ out o s₀ s) (q : w .top ≡ 0) where
+  at-end : Writing c P X bytes root [] w out₀ out o s₀ s
+  at-end = subst (λ (n : ℕ). Writing c P X bytes root (pile e n) w out₀ out o s₀ s) q h
+
+  pub written-end : w .at ≤ length out → w .spans ≤ length s → Written (plan P X bytes root) out₀ out s₀ s
+  written-end l m =
+      let p = plan P X bytes root in
+      let n : length (span-rows p) ≡ w .spans = sym (ap length (at-end .spans-is)) ∙ length-take-le (w .spans) s m in
+      record {
+        output-is = over-is (w .at) out out₀ (page p) l (sym (append-nil (take (w .at) out)) ∙ at-end .page-is) (at-end .page-past);
+        spans-is = over-is (w .spans) s s₀ (span-rows p) m (at-end .spans-is) (at-end .spans-past);
+        fits = λ k j. subst (λ (rows : List Row). Fits (getD rows k [])) (at-end .spans-is) (rw (getD-take (w .spans) s k [] (omega (arith, n))) (at-end .fits k (omega (arith, n))));
+      }
+
+-- ---- both passes
+
+-- the first pass's answer is the second's leave to write
+pub page-passes : (c : Capacity) (p : Plan) (l n k : ℕ) (r : Measured) → Answered c p r → r ≡ Page l n k → Passes c p
+page-passes c p l n k r h q =
+    let g = subst (λ (x : Measured). Answered c p x) q h in
+    record { around = some-around; visits = k; passed = sym (g .answer some-around) }
+
+-- the first n records by themselves
+arena-cut : (rows : List Row) (n m : ℕ) → m ≤ n → arena (take n rows) m ≡ arena rows m
+unfolding arena
+arena-cut rows n zero h = refl
+arena-cut rows n (suc m) h = rw (arena-cut rows n m (omega arith), getD-take n rows m [] (omega arith))
+
+module _ (P : List Row) (n : ℕ) (X : List Row) (root : ℕ) (p : Planned P n X root) where
+  cut-length : length (take n P) ≡ n
+  cut-length = length-take-le n P (p .lent)
+
+  cut-arena : arena (take n P) (length (take n P)) ≡ arena P n
+  cut-arena = rw cut-length (arena-cut P n n (omega arith))
+
+  pub cut-planned : Planned (take n P) (length (take n P)) X root
+  cut-planned = record {
+    lent = omega arith;
+    few = rw cut-length (p .few);
+    ranked = rw cut-arena (p .ranked);
+    rooted = rw cut-length (p .rooted);
+  }
+
+  pub cut-plan : (bytes : List ℕ) → plan (take n P) X bytes root ≡ layout P n X bytes root
+  cut-plan bytes = rw cut-arena
+
+-- the whole promise
+pub promised : (c : Capacity) (p q : Plan) (out₀ out : List ℕ) (s₀ s : List Row) (r m : Measured) → Answered c q m → q ≡ p → m ≡ r
+    → out ≡ after r (page q) out₀ → s ≡ after r (span-rows q) s₀ → Fitting q r → Materialized c p out₀ out s₀ s r
+promised c p q out₀ out s₀ s r m a e f g h j =
+    let b : Answered c p r = subst (λ (x : Measured). Answered c p x) f (subst (λ (x : Plan). Answered c x m) e a) in
+    record {
+      answer = λ B k ag z. b .answer (record { bounds = B; counts = k }) ∙ agreed c B k (materialize p) ag z;
+      sized = b .sized;
+      output-is = g ∙ ap (λ (x : Plan). after r (page x) out₀) e;
+      spans-is = h ∙ ap (λ (x : Plan). after r (span-rows x) s₀) e;
+      fitting = subst (λ (x : Plan). Fitting x r) e j;
+    }

@@ -1,0 +1,127 @@
+use mathlib.Core.Path.{_≡_, refl, _∙_}
+use mathlib.Core.List.{List}
+use Prim.Native.Nat.{ℕ, _-_, _<_}
+use native.Mathlib.Omega.{arith}
+use borrow.Author.Needs.{needs}
+use lib.ListN.{length, length-set}
+use Rattle.materialize.specs.Texts.{InBytes}
+use Rattle.materialize.specs.Walks.{Around, pile, plan, Sound}
+use Rattle.materialize.proofs.Passes.{Along, none-fits, sound-begin, along-begin, along-step, along-stop, along-end, turned-went, turned-stopped, some-bytes, in-some, some-around}
+use Rattle.materialize.proofs.measure.Statement.{statement}
+use Rattle.materialize.proofs.measure.Tie as tie
+
+abbrev Inv-loop : tie.InvT-loop
+Inv-loop capacity plans texts stack₀ number w₀ stack w =
+    (length stack ≡ length stack₀) × Sound capacity (length plans) (pile stack (w .top)) w
+    × ((o : Around) (bytes : List ℕ) → InBytes texts bytes → Along capacity o plans texts bytes number (pile stack (w .top)) w)
+
+abbrev μ-loop : tie.MeasureT-loop
+μ-loop capacity plans texts stack₀ number w₀ stack w = capacity .«visit_limit» - w .visits
+
+returns : tie.Need-returns Inv-loop μ-loop
+returns c = λ bytes ib. none-fits (c .before .before .before .args .capacity) (plan (c .before .before .before .args .plans .now) (c .before .before .before .args .texts .now) bytes (c .before .before .before .args .root .0)) (c .if1 .taken)
+
+word-of-requires : tie.Need-word-of-requires Inv-loop μ-loop
+word-of-requires c κs = search needs
+
+slice-write-stack : tie.Need-slice-write-stack Inv-loop μ-loop
+slice-write-stack c = omega (arith, c .before .before .before .before .pre .0, c .before .if1 .left)
+
+loop-holds : tie.Need-loop-holds Inv-loop μ-loop
+loop-holds c =
+    let a = c .before .before .before .before .args in
+    let v : 0 < a .capacity .visit = omega (arith, c .before .if1 .left) in
+    let h : 0 < length (a .stack .now) = omega (arith, c .before .before .before .before .pre .0) in
+    rw (c .word-of .ensures .0) (
+      refl,
+      sound-begin (a .capacity) (length (a .plans .now)) (a .stack .now) (a .root .0) v h (c .before .before .before .before .pre .2 .rooted),
+      λ o bytes ib. along-begin (a .capacity) o (a .plans .now) (a .texts .now) bytes (a .root .0) (a .stack .now) v h,
+    )
+
+visit-item-requires : tie.Need-visit-item-requires Inv-loop μ-loop
+visit-item-requires c κs =
+    record {
+      some-left = c .before .if2 .taken;
+      stack-lent = omega (arith, c .before .before .before .before .before .before .before .before .pre .0, c .before .before .before .loop .inv .0, length-set (c .before .before .before .before .before .before .before .before .args .stack .now) 0 (c .before .before .before .before .word-of .result));
+      small = c .before .before .before .before .before .before .before .before .pre .1;
+      few = c .before .before .before .before .before .before .before .before .pre .2 .few;
+      ranked = c .before .before .before .before .before .before .before .before .pre .2 .ranked;
+      sound = c .before .before .before .loop .inv .1;
+    }
+
+enum-known-s : tie.Need-enum-known-s Inv-loop μ-loop
+enum-known-s c = search needs
+
+same-length : tie.Need-same-length Inv-loop μ-loop
+same-length c = omega (arith, c .before .before .before .before .before .before .before .before .before .loop .inv .0, c .before .before .before .before .before .visit-item .kept, length-set (c .before .before .before .before .before .before .before .before .before .before .before .before .before .before .args .stack .now) 0 (c .before .before .before .before .before .before .before .before .before .before .word-of .result))
+
+returns-2 : tie.Need-returns-2 Inv-loop μ-loop
+returns-2 c =
+    let a = c .before .before .before .before .before .before .before .before .before .before .before .before .before .before .args in
+    let P = a .plans .now in
+    let X = a .texts .now in
+    let l = c .before .before .before .before .before .before .before .before .before .loop in
+    let w = l .w in
+    let r = c .before .before .before .before .before .visit-item .result in
+    let x = c .before .before .before .before .before .visit-item .last .1 .1 .1 .1 .0 in
+    λ bytes ib. along-stop (a .capacity) P X bytes (a .root .0) _ w _ _ _ (λ o. l .inv .2 o bytes ib)
+    (λ o. turned-stopped (a .capacity) o P X bytes (l .stack) x w _ _ _ r (c .before .before .before .before .before .visit-item .ensures o bytes ib) (c .before .s .given .1))
+
+enum-known-s-2 : tie.Need-enum-known-s-2 Inv-loop μ-loop
+enum-known-s-2 c = search needs
+
+loop-less : tie.Need-loop-less Inv-loop μ-loop
+loop-less c =
+    let a = c .before .before .before .before .before .before .before .before .before .before .before .before .before .before .args in
+    let P = a .plans .now in
+    let X = a .texts .now in
+    let l = c .before .before .before .before .before .before .before .before .before .loop in
+    let w = l .w in
+    let r = c .before .before .before .before .before .visit-item .result in
+    let x = c .before .before .before .before .before .visit-item .last .1 .1 .1 .1 .0 in
+    let g = turned-went (a .capacity) some-around P X (some-bytes X) (l .stack) x w _ _ r (c .before .before .before .before .before .visit-item .ensures some-around (some-bytes X) (in-some X)) (c .before .s2 .given .1) in
+    omega (arith, g .moved .counted, g .sound .visits-le)
+
+loop-again : tie.Need-loop-again Inv-loop μ-loop
+loop-again c =
+    let a = c .before .before .before .before .before .before .before .before .before .before .before .before .before .before .args in
+    let P = a .plans .now in
+    let X = a .texts .now in
+    let l = c .before .before .before .before .before .before .before .before .before .loop in
+    let w = l .w in
+    let r = c .before .before .before .before .before .visit-item .result in
+    let x = c .before .before .before .before .before .visit-item .last .1 .1 .1 .1 .0 in
+    let g = turned-went (a .capacity) some-around P X (some-bytes X) (l .stack) x w _ _ r (c .before .before .before .before .before .visit-item .ensures some-around (some-bytes X) (in-some X)) (c .before .s2 .given .1) in (
+      omega (arith, l .inv .0, c .before .before .before .before .before .visit-item .kept),
+      g .sound,
+      λ o bytes ib. along-step (l .inv .2 o bytes ib) (turned-went (a .capacity) o P X bytes (l .stack) x w _ _ r (c .before .before .before .before .before .visit-item .ensures o bytes ib) (c .before .s2 .given .1)),
+    )
+
+same-length-2 : tie.Need-same-length-2 Inv-loop μ-loop
+same-length-2 c = c .before .before .loop .inv .0 ∙ length-set (c .before .before .before .before .before .before .before .args .stack .now) 0 (c .before .before .before .word-of .result)
+
+returns-3 : tie.Need-returns-3 Inv-loop μ-loop
+returns-3 c =
+    let a = c .before .before .before .before .before .before .before .args in
+    let l = c .before .before .loop in
+    λ bytes ib. along-end (a .capacity) (a .plans .now) (a .texts .now) bytes (a .root .0) (l .stack) (l .w) (λ o. l .inv .2 o bytes ib) (omega (arith, c .if2 .left))
+
+pub measure-spec : {M : Type 1} → statement M
+measure-spec =
+    tie.close
+    (tie.spec
+    Inv-loop
+    μ-loop
+    returns
+    word-of-requires
+    slice-write-stack
+    loop-holds
+    visit-item-requires
+    enum-known-s
+    same-length
+    returns-2
+    enum-known-s-2
+    loop-less
+    loop-again
+    same-length-2
+    returns-3)

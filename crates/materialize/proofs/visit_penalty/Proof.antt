@@ -1,0 +1,26 @@
+use mathlib.Core.Path.{refl}
+use borrow.Author.Needs.{needs}
+use Rattle.materialize.proofs.visit_penalty.Statement.{statement}
+use Rattle.materialize.proofs.visit_penalty.Tie as tie
+
+word-of-requires : tie.Need-word-of-requires
+word-of-requires c κs = search needs
+
+mul-stack : tie.Need-mul-stack
+mul-stack c = search needs
+
+slice-write-stack : tie.Need-slice-write-stack
+slice-write-stack c = search needs
+
+add-z : tie.Need-add-z
+add-z c = search needs
+
+same-length : tie.Need-same-length
+same-length c = search needs
+
+returns : tie.Need-returns
+returns c = rw (c .word-of .ensures .0) (refl, refl)
+
+pub visit-penalty-spec : {M : Type 1} → statement M
+visit-penalty-spec =
+    tie.close (tie.spec word-of-requires mul-stack slice-write-stack add-z same-length returns)

@@ -1,0 +1,471 @@
+// The page and the spans of the chosen plan, in two passes over one walk: `measure` tests every limit, `write` writes.
+// So a refusal alters neither output nor spans, and visits are counted once.
+// Cost and column are not counted again: that the solver's cost is the layout's is a theorem about the machine, so CostWitnessMismatch never arises.
+ghost use mathlib.Core.Path.{_≡_};
+ghost use mathlib.Core.List.{List, _∷_, _++_};
+ghost use Prim.Native.Nat.{ℕ, _+_, _-_, _≤_, _<_, _^_};
+ghost use lib.ListN.{length, take, drop, getD, set, replicate};
+ghost use Rattle.tables.specs.Tables.{byte-start, byte-length};
+ghost use Rattle.materialize.specs.Rows.{parent-word};
+ghost use Rattle.materialize.specs.Texts.{text-row, layout, InBytes, Planned};
+ghost use Rattle.materialize.specs.Answer.{Small, Lent, Materialized};
+ghost use Rattle.materialize.specs.Walks.{Around, pile, plan, innermost, span-row, close, at-top, text-turn, newline-turn, two-turn, two-words, annotate-turn, annotate-words, Standing, Turned, Answered};
+ghost use Rattle.materialize.specs.Writes.{wrote, Under, Allowed, Performed, Passes, Written};
+use plan::PlanId;
+use plan::PlanNode;
+use plan::plan_node;
+use tables::AnnotationId;
+use tables::TextId;
+
+// The sizes of 18 to 21, and the limit of 22.
+pub struct Capacity {
+    pub visit: usize,
+    pub depth: usize,
+    pub output: usize,
+    pub spans: usize,
+    pub visit_limit: u64,
+}
+
+// Which of them is passed.
+pub enum Exhausted {
+    Visit,
+    Depth,
+    Output,
+    Spans,
+    Visits,
+}
+
+// A page: its bytes, its spans, and the visits. A refusal: what is needed (0 for the visit limit), and the visits before it.
+pub enum Measured {
+    Page(usize, usize, u64),
+    Refused(Exhausted, usize, u64),
+}
+
+// Where a walk stands: items on the visit stack, open spans, bytes and spans so far, items taken.
+pub struct Walk {
+    pub top: usize,
+    pub depth: usize,
+    pub at: usize,
+    pub spans: usize,
+    pub visits: u64,
+}
+
+// What an item puts: nothing; a text's start and length among the bytes; a newline and its spaces; a span's beginning; its end.
+pub enum Act {
+    Pass,
+    Put(usize, usize),
+    Line(usize),
+    Open(AnnotationId),
+    Close,
+}
+
+pub enum Visited {
+    Went(Walk, Act),
+    Stopped(Exhausted, usize, u64),
+}
+
+// Where a text lies among the bytes.
+pub struct Place {
+    pub start: usize,
+    pub len: usize,
+}
+
+fn wide(x: u32) -> usize
+    ensures { λ r. ⌜ (r ≡ x) × (r < 2 ^ 32) ⌝ }
+{
+    x as usize
+}
+
+fn text_place(texts: &[[u32; 3]], id: TextId) -> Place
+    requires { ⌜ id .0 < length (now texts) ⌝ }
+    ensures { λ r. ⌜ (r .start ≡ byte-start (text-row (now (texts .entry)) (id .0))) × (r .len ≡ byte-length (text-row (now (texts .entry)) (id .0))) × (r .len < 2 ^ 32) ⌝ }
+{
+    let i = wide(id.0);
+    let row = texts[i];
+    Place {
+        start: wide(row[2]),
+        len: wide(row[1]),
+    }
+}
+
+// The word of the visit stack that says: lay out the plan. 0 says: close the last open span.
+fn word_of(id: PlanId) -> usize
+    ensures { λ r. ⌜ (r ≡ id .0 + 1) × (r ≤ 2 ^ 32) ⌝ }
+{
+    wide(id.0) + 1
+}
+
+fn visit_text(capacity: Capacity, w: Walk, texts: &[[u32; 3]], id: TextId) -> Visited
+    requires { ⌜ (id .0 < length (now texts)) × (w .at ≤ capacity .output) × Small capacity ⌝ }
+    ensures { λ r. ⌜ r ≡ text-turn capacity w (byte-start (text-row (now (texts .entry)) (id .0))) (byte-length (text-row (now (texts .entry)) (id .0))) ⌝ }
+{
+    let place = text_place(texts, id);
+    let start = place.start;
+    let len = place.len;
+    let end = w.at + len;
+    if capacity.output < end {
+        return Visited::Stopped(Exhausted::Output, end, w.visits);
+    }
+    let mut z = w;
+    z.at = end;
+    Visited::Went(z, Act::Put(start, len))
+}
+
+// One test for all its bytes: a newline that has no place costs no loop.
+fn visit_newline(capacity: Capacity, w: Walk, columns: u32) -> Visited
+    requires { ⌜ (w .at ≤ capacity .output) × Small capacity ⌝ }
+    ensures { λ r. ⌜ r ≡ newline-turn capacity w columns ⌝ }
+{
+    let indent = wide(columns);
+    if capacity.output - w.at <= indent {
+        let needed = capacity.output + 1;
+        return Visited::Stopped(Exhausted::Output, needed, w.visits);
+    }
+    let mut z = w;
+    z.at = w.at + indent + 1;
+    Visited::Went(z, Act::Line(indent))
+}
+
+// Two items go on the visit stack. (The first alone always has a place: it takes that of the item just taken.)
+fn push_visits(
+    capacity: Capacity,
+    w: Walk,
+    act: Act,
+    below: usize,
+    above: usize,
+    stack: &mut [usize],
+) -> Visited
+    requires { ⌜ (w .top ≤ capacity .visit) × (capacity .visit ≤ length (now stack)) × Small capacity ⌝ }
+    ensures { λ r. ⌜ (r ≡ two-turn capacity w act) × (now (stack .exit) ≡ two-words capacity w below above (now (stack .entry))) ⌝ }
+{
+    let top = w.top;
+    let needed = top + 2;
+    if capacity.visit < needed {
+        return Visited::Stopped(Exhausted::Visit, needed, w.visits);
+    }
+    stack[top] = below;
+    stack[top + 1] = above;
+    let mut z = w;
+    z.top = needed;
+    Visited::Went(z, act)
+}
+
+// Spans, then depth, then the visit stack.
+fn visit_annotate(
+    capacity: Capacity,
+    w: Walk,
+    annotation: AnnotationId,
+    child: PlanId,
+    stack: &mut [usize],
+) -> Visited
+    requires { ⌜ (w .top ≤ capacity .visit) × (w .spans ≤ capacity .spans) × (w .depth ≤ capacity .depth) × (capacity .visit ≤ length (now stack)) × Small capacity ⌝ }
+    ensures { λ r. ⌜ (r ≡ annotate-turn capacity w annotation) × (now (stack .exit) ≡ annotate-words capacity w (child .0 + 1) (now (stack .entry))) ⌝ }
+{
+    let spans = w.spans + 1;
+    if capacity.spans < spans {
+        return Visited::Stopped(Exhausted::Spans, spans, w.visits);
+    }
+    let depth = w.depth + 1;
+    if capacity.depth < depth {
+        return Visited::Stopped(Exhausted::Depth, depth, w.visits);
+    }
+    let above = word_of(child);
+    let mut z = w;
+    z.spans = spans;
+    z.depth = depth;
+    push_visits(capacity, z, Act::Open(annotation), 0, above, stack)
+}
+
+fn visit_concat(
+    capacity: Capacity,
+    w: Walk,
+    left: PlanId,
+    right: PlanId,
+    stack: &mut [usize],
+) -> Visited
+    requires { ⌜ (w .top ≤ capacity .visit) × (capacity .visit ≤ length (now stack)) × Small capacity ⌝ }
+    ensures { λ r. ⌜ (r ≡ two-turn capacity w Act.Pass) × (now (stack .exit) ≡ two-words capacity w (right .0 + 1) (left .0 + 1) (now (stack .entry))) ⌝ }
+{
+    let below = word_of(right);
+    let above = word_of(left);
+    push_visits(capacity, w, Act::Pass, below, above, stack)
+}
+
+fn visit_penalty(w: Walk, child: PlanId, stack: &mut [usize]) -> Visited
+    requires { ⌜ w .top < length (now stack) ⌝ }
+    ensures { λ r. ⌜ (r ≡ Visited.Went (at-top w (w .top + 1)) Act.Pass) × (now (stack .exit) ≡ set (now (stack .entry)) (w .top) (child .0 + 1)) ⌝ }
+{
+    let top = w.top;
+    stack[top] = word_of(child);
+    let mut z = w;
+    z.top = top + 1;
+    Visited::Went(z, Act::Pass)
+}
+
+// One item is taken off the visit stack: what it puts, and where the walk stands then; or the first limit that it passes.
+fn visit_item(
+    capacity: Capacity,
+    w: Walk,
+    plans: &[[u32; 3]],
+    texts: &[[u32; 3]],
+    stack: &mut [usize],
+) -> Visited
+    requires { ⌜ Standing capacity (now plans) (now texts) (now stack) w ⌝ }
+    ensures { λ r. ⌜ ((o : Around) (bytes : List ℕ) → InBytes (now (texts .entry)) bytes → Turned capacity o (now (plans .entry)) (now (texts .entry)) bytes (now (stack .entry)) w (now (stack .exit)) r) ⌝ }
+{
+    if capacity.visit_limit <= w.visits {
+        return Visited::Stopped(Exhausted::Visits, 0, w.visits);
+    }
+    let top = w.top - 1;
+    let item = stack[top];
+    let mut z = w;
+    z.top = top;
+    z.visits = w.visits + 1;
+    if item == 0 {
+        z.depth = w.depth - 1;
+        return Visited::Went(z, Act::Close);
+    }
+    let id = PlanId((item - 1) as u32);
+    let node = plan_node(plans, id);
+    match node {
+        PlanNode::Empty => {
+            return Visited::Went(z, Act::Pass);
+        }
+        PlanNode::Text(text) => {
+            return visit_text(capacity, z, texts, text);
+        }
+        PlanNode::Newline { indent } => {
+            return visit_newline(capacity, z, indent);
+        }
+        PlanNode::Concat { left, right } => {
+            return visit_concat(capacity, z, left, right, stack);
+        }
+        PlanNode::Annotate { annotation, child } => {
+            return visit_annotate(capacity, z, annotation, child, stack);
+        }
+        PlanNode::Penalty { amount: _, child } => {
+            return visit_penalty(z, child, stack);
+        }
+    }
+}
+
+// The first pass: what the page needs, or the first limit that it passes. It writes the visit stack alone.
+fn measure(
+    capacity: Capacity,
+    plans: &[[u32; 3]],
+    texts: &[[u32; 3]],
+    stack: &mut [usize],
+    root: PlanId,
+) -> Measured
+    requires { ⌜ (capacity .visit ≤ length (now stack)) × Small capacity × Planned (now plans) (length (now plans)) (now texts) (root .0) ⌝ }
+    ensures { λ r. ⌜ ((bytes : List ℕ) → InBytes (now (texts .entry)) bytes → Answered capacity (plan (now (plans .entry)) (now (texts .entry)) bytes (root .0)) r) ⌝ }
+{
+    if capacity.visit == 0 {
+        return Measured::Refused(Exhausted::Visit, 1, 0);
+    }
+    let number = root.0;
+    stack[0] = word_of(PlanId(number));
+    let mut w = Walk {
+        top: 1,
+        depth: 0,
+        at: 0,
+        spans: 0,
+        visits: 0,
+    };
+    while 0 < w.top {
+        let s = visit_item(capacity, w, plans, texts, stack);
+        match s {
+            Visited::Stopped(e, needed, visits) => {
+                return Measured::Refused(e, needed, visits);
+            }
+            Visited::Went(z, _) => {
+                w = z;
+            }
+        }
+    }
+    Measured::Page(w.at, w.spans, w.visits)
+}
+
+// The bytes of `bytes` at the front of `output`, the part that starts at the current write position.
+fn append_output(bytes: &[u8], output: &mut [u8])
+    requires { ⌜ length (now bytes) ≤ length (now output) ⌝ }
+    ensures { λ _. ⌜ now (output .exit) ≡ now (bytes .entry) ++ drop (length (now (bytes .entry))) (now (output .entry)) ⌝ }
+{
+    let mut i: usize = 0;
+    while i < bytes.len() {
+        output[i] = bytes[i];
+        i += 1;
+    }
+}
+
+// A newline and its spaces at the front of `output`, likewise.
+fn append_newline(indent: usize, output: &mut [u8])
+    requires { ⌜ indent < length (now output) ⌝ }
+    ensures { λ _. ⌜ now (output .exit) ≡ (10 ∷ replicate indent 32) ++ drop (indent + 1) (now (output .entry)) ⌝ }
+{
+    output[0] = 10;
+    let mut i: usize = 0;
+    while i < indent {
+        i += 1;
+        output[i] = 32;
+    }
+}
+
+// A text, from the position on.
+fn put_text(bytes: &[u8], start: usize, len: usize, output: &mut [u8], at: usize)
+    requires { ⌜ (start + len ≤ length (now bytes)) × (at + len ≤ length (now output)) ⌝ }
+    ensures { λ _. ⌜ now (output .exit) ≡ wrote (take len (drop start (now (bytes .entry)))) at (now (output .entry)) ⌝ }
+{
+    let end = start + len;
+    append_output(&bytes[start..end], &mut output[at..]);
+}
+
+// A newline and its spaces, from the position on.
+fn put_newline(indent: usize, output: &mut [u8], at: usize)
+    requires { ⌜ at + indent < length (now output) ⌝ }
+    ensures { λ _. ⌜ now (output .exit) ≡ wrote (10 ∷ replicate indent 32) at (now (output .entry)) ⌝ }
+{
+    append_newline(indent, &mut output[at..]);
+}
+
+// The span around what opens next, as a word: 0, or one more than its number.
+fn parent(held: &[usize], depth: usize) -> usize
+    requires { ⌜ (depth ≤ length (now held)) × Under (2 ^ 32) (pile (now held) depth) ⌝ }
+    ensures { λ r. ⌜ r ≡ parent-word (innermost (pile (now (held .entry)) depth)) ⌝ }
+{
+    if depth == 0 {
+        return 0;
+    }
+    held[depth - 1] + 1
+}
+
+// A span opens: its row, whose end is not known yet, and its number among the open ones.
+fn push_open_span(annotation: AnnotationId, w: Walk, held: &mut [usize], spans: &mut [[u64; 4]])
+    requires { ⌜ (w .depth < length (now held)) × (w .spans < length (now spans)) × Under (2 ^ 32) (pile (now held) (w .depth)) ⌝ }
+    ensures { λ _. ⌜ (now (held .exit) ≡ set (now (held .entry)) (w .depth) (w .spans)) × (now (spans .exit) ≡ set (now (spans .entry)) (w .spans) (span-row (annotation .0) (w .at) (w .at) (innermost (pile (now (held .entry)) (w .depth))))) × (annotation .0 < 2 ^ 32) ⌝ }
+{
+    let depth = w.depth;
+    let n = w.spans;
+    let at = w.at;
+    let up = parent(held, depth);
+    let number = annotation.0;
+    spans[n] = [number as u64, at as u64, at as u64, up as u64];
+    held[depth] = n;
+}
+
+// The last open span closes.
+fn pop_open_span(w: Walk, held: &[usize], spans: &mut [[u64; 4]])
+    requires { ⌜ (0 < w .depth) × (w .depth ≤ length (now held)) × (getD (now held) (w .depth - 1) 0 < length (now spans)) ⌝ }
+    ensures { λ _. ⌜ now (spans .exit) ≡ close (now (spans .entry)) (getD (now (held .entry)) (w .depth - 1) 0) (w .at) ⌝ }
+{
+    let depth = w.depth;
+    let at = w.at;
+    let n = held[depth - 1];
+    spans[n][2] = at as u64;
+}
+
+// What an item puts is put.
+fn perform(
+    act: Act,
+    w: Walk,
+    bytes: &[u8],
+    held: &mut [usize],
+    output: &mut [u8],
+    spans: &mut [[u64; 4]],
+)
+    requires { ⌜ Allowed act w (now bytes) (now held) (now output) (now spans) ⌝ }
+    ensures { λ _. ⌜ Performed act w (now (bytes .entry)) (now (held .entry)) (now (held .exit)) (now (output .entry)) (now (output .exit)) (now (spans .entry)) (now (spans .exit)) ⌝ }
+{
+    let at = w.at;
+    match act {
+        Act::Pass => {}
+        Act::Put(start, len) => {
+            put_text(bytes, start, len, output, at);
+        }
+        Act::Line(indent) => {
+            put_newline(indent, output, at);
+        }
+        Act::Open(annotation) => {
+            push_open_span(annotation, w, held, spans);
+        }
+        Act::Close => {
+            pop_open_span(w, held, spans);
+        }
+    }
+}
+
+// The second pass, over a plan that the first has passed: the page and the spans. The tests are made again, and none can fail.
+fn write(
+    capacity: Capacity,
+    plans: &[[u32; 3]],
+    texts: &[[u32; 3]],
+    bytes: &[u8],
+    stack: &mut [usize],
+    held: &mut [usize],
+    output: &mut [u8],
+    spans: &mut [[u64; 4]],
+    root: PlanId,
+)
+    requires { ⌜ Lent capacity (now stack) (now held) (now output) (now spans) × Planned (now plans) (length (now plans)) (now texts) (root .0) × InBytes (now texts) (now bytes) × Passes capacity (plan (now plans) (now texts) (now bytes) (root .0)) ⌝ }
+    ensures { λ _. ⌜ Written (plan (now (plans .entry)) (now (texts .entry)) (now (bytes .entry)) (root .0)) (now (output .entry)) (now (output .exit)) (now (spans .entry)) (now (spans .exit)) ⌝ }
+{
+    let number = root.0;
+    stack[0] = word_of(PlanId(number));
+    let mut w = Walk {
+        top: 1,
+        depth: 0,
+        at: 0,
+        spans: 0,
+        visits: 0,
+    };
+    while 0 < w.top {
+        let s = visit_item(capacity, w, plans, texts, stack);
+        match s {
+            Visited::Stopped(_, _, _) => {
+                return;
+            }
+            Visited::Went(z, act) => {
+                perform(act, w, bytes, held, output, spans);
+                w = z;
+            }
+        }
+    }
+}
+
+// The page and the spans of plan `root` among the first `count` plan records, or the first limit that they pass.
+pub fn materialize(
+    capacity: Capacity,
+    plans: &[[u32; 3]],
+    count: usize,
+    texts: &[[u32; 3]],
+    bytes: &[u8],
+    stack: &mut [usize],
+    held: &mut [usize],
+    output: &mut [u8],
+    spans: &mut [[u64; 4]],
+    root: PlanId,
+) -> Measured
+    requires { ⌜ Lent capacity (now stack) (now held) (now output) (now spans) × Planned (now plans) count (now texts) (root .0) × InBytes (now texts) (now bytes) ⌝ }
+    ensures { λ r. ⌜ Materialized capacity (layout (now (plans .entry)) count (now (texts .entry)) (now (bytes .entry)) (root .0)) (now (output .entry)) (now (output .exit)) (now (spans .entry)) (now (spans .exit)) r ⌝ }
+{
+    let m = measure(capacity, &plans[..count], texts, stack, root);
+    match m {
+        Measured::Refused(e, needed, visits) => {
+            return Measured::Refused(e, needed, visits);
+        }
+        Measured::Page(length, number, visits) => {
+            write(
+                capacity,
+                &plans[..count],
+                texts,
+                bytes,
+                stack,
+                held,
+                output,
+                spans,
+                root,
+            );
+            return Measured::Page(length, number, visits);
+        }
+    }
+}

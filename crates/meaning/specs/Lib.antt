@@ -1,0 +1,17 @@
+pub mod Relations
+pub mod Post
+pub mod Rules
+pub mod Fronts
+pub mod Typed
+pub mod Ready
+pub mod Sound
+pub mod Tasks
+pub mod Sequences
+pub mod Step
+pub mod Rest
+pub mod Falls
+pub mod Found
+pub mod Materialized
+pub mod Right
+pub mod Loop
+pub mod Pruned

@@ -1,0 +1,1 @@
+// What the machine finds is the answer of the rule: theorems only, in specs/.

@@ -1,0 +1,1 @@
+// How the solver reads the tables of an accepted file: definitions only, in specs/.
