@@ -1,8 +1,7 @@
 -- The answer of solver and materializer on an accepted file's tables: a page or a refusal, by document 01's numbers.
-use mathlib.Core.List.{List}
 use Prim.Native.Nat.{ℕ}
 use Rattle.layout.specs.Rules.{Rules}
-use Rattle.machine.specs.Events.{Bounds, Counts, no-counts, Why, number, Out, done, stop, run}
+use Rattle.machine.specs.Events.{Bounds, Counts, no-counts, number, Out, done, stop, run}
 use Rattle.machine.specs.Model.{Prepared}
 use Rattle.machine.specs.Materializer.{Rendered, render}
 

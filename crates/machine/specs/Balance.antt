@@ -1,7 +1,7 @@
 -- At every stop and at the end, work = hits + misses + generated.
 use mathlib.Core.Path.{_≡_, refl}
 use mathlib.Core.Bool.{Bool, true, false, cond}
-use Prim.Native.Nat.{ℕ, _+_}
+use Prim.Native.Nat.{_+_}
 use native.Mathlib.Omega.{arith}
 use Rattle.layout.specs.Rules.{Rules}
 use Rattle.machine.specs.Events.{Bounds, Counts, no-counts, passes, counted, why, needed, Prog, ret, emit, Out, done, stop, run}

@@ -3,7 +3,7 @@ use mathlib.Core.Path.{_≡_, refl}
 use mathlib.Core.Bool.{cond}
 use mathlib.Core.Option.{Option, none, some}
 use mathlib.Core.List.{List, [], _∷_, map}
-use Prim.Native.Nat.{ℕ, suc, _+_}
+use Prim.Native.Nat.{ℕ, suc}
 use lib.Dec.{eqb}
 use lib.ListN.{getD, length}
 use Rattle.cost.specs.Cost.{cheap, cheaper}
@@ -14,7 +14,7 @@ use Rattle.layout.specs.Spans.{Span}
 use Rattle.layout.specs.Frontier.{covers}
 use Rattle.layout.specs.Frontier.{present as presented}
 use Rattle.layout.specs.Table.{Node, Empty, Break, HardLine, Text, Seq, Fill, Group, Align, Nest, Choice, Annotate, Penalty}
-use Rattle.machine.specs.Events.{Bounds, Counts, _>>=_}
+use Rattle.machine.specs.Events.{Bounds, Counts}
 use Rattle.machine.specs.Model.{Prepared, ExactChoice, plan-at}
 use Rattle.machine.specs.Solver.{push-exact-task, push-exact-result, push-pending, checked-add, present, present-all, additional-plans, committed, finish-builder, singleton, present-range, union-ranges, present-wrapped, wrap-range, memo-insert, complete-node, push-joined, build-pending}
 use Rattle.machine.specs.Solver.{checked-text, push-gaps, fill-boundary, push-child, complete-singleton, begin-empty, begin-text, begin-newline, begin-sequence, begin-union, begin-group, begin-nest, skip-choices, push-alternatives, begin-choice, begin-kind, begin-known, begin-node}

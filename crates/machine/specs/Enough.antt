@@ -3,14 +3,13 @@ use mathlib.Core.Path.{_≡_, refl, sym, ap, _∙_}
 use mathlib.Core.Bool.{Bool, true, false, cond, false≢true}
 use mathlib.Core.List.{List, [], _∷_}
 use lib.ListN.{getD}
-use Prim.Native.Nat.{ℕ, suc, _+_, _≤_, _<_, _^_, max}
+use Prim.Native.Nat.{ℕ, _+_, _≤_, _<_, _^_, max}
 use native.Mathlib.Omega.{arith}
 use borrow.Author.Tests.{le-leb, lt-ltb, leb-true, ltb-true, eq-eqb, eqb-true}
-use lib.Dec.{leb, ltb, eqb}
-use Rattle.machine.specs.Events.{Bounds, Counts, Kind, stack, memo, kept, frontier, plans, visit, depth, output, spans, size, bits, passes, counted, Prog, ret, emit, Out, done, stop, run}
+use lib.Dec.{eqb}
+use Rattle.machine.specs.Events.{Bounds, Counts, Kind, stack, memo, kept, frontier, plans, visit, depth, output, spans, size, bits, passes, counted, Prog, ret, emit, done, run}
 use Rattle.machine.specs.Events.{Event, Need, Within, Hit, Miss, Generated, Visit, Pruned, Peak, Entries, PlanNodes, Never}
 use Rattle.machine.specs.Programs.{value, counts-after, Passes, run-passes, done-passes}
-use Rattle.cost.specs.declared.Reason.{Reason}
 
 -- the place of a size among 13 to 21
 abbrev pub index : Kind → ℕ

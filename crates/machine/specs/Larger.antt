@@ -1,17 +1,17 @@
 -- Under sizes and limits none smaller, what ends in a result ends in the same one, with the same counts.
 use mathlib.Core.Path.{_≡_, refl, sym, ap, _∙_}
-use mathlib.Core.Bool.{Bool, true, false}
-use Prim.Native.Nat.{ℕ, _+_, _≤_, _<_, _^_}
+use mathlib.Core.Bool.{true}
+use Prim.Native.Nat.{ℕ, _≤_}
 use native.Mathlib.Omega.{arith}
 use borrow.Author.Tests.{le-leb, lt-ltb, leb-true, ltb-true}
-use lib.Dec.{leb, ltb}
+use lib.Dec.{ltb}
 use Rattle.layout.specs.Rules.{Rules}
-use Rattle.machine.specs.Events.{Bounds, Counts, no-counts, Kind, stack, memo, kept, frontier, plans, visit, depth, output, spans, size, passes, counted, Prog, ret, emit, Out, done, stop, run, number}
+use Rattle.machine.specs.Events.{Bounds, Counts, no-counts, Kind, size, passes, counted, Prog, ret, emit, Out, done, stop, run}
 use Rattle.machine.specs.Events.{Event, Need, Within, Hit, Miss, Generated, Visit, Pruned, Peak, Entries, PlanNodes, Never}
-use Rattle.machine.specs.Programs.{value, counts-after, Passes, run-passes, done-passes, done-is, done-not-stop}
+use Rattle.machine.specs.Programs.{Passes, run-passes, done-passes, done-is}
 use Rattle.machine.specs.Model.{Prepared}
 use Rattle.machine.specs.Materializer.{Rendered, render}
-use Rattle.machine.specs.Answer.{Answer, paged, refused, answer, answer-of}
+use Rattle.machine.specs.Answer.{paged, answer, answer-of}
 
 -- none of them is smaller
 pub record Larger (b d : Bounds) : Type 0 where

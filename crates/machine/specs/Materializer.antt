@@ -1,17 +1,16 @@
 -- materialize: the walk over the chosen layout by the visit stack, with what the Rust tests on the way. It puts the layout's page and spans (Layout, Spans).
-use mathlib.Core.List.{List, []}
-use mathlib.Core.Option.{Option}
+use mathlib.Core.List.{List}
 use Prim.Native.Nat.{ℕ, zero, suc, _+_}
 use lib.ListN.{length}
 use Rattle.cost.specs.Cost.{Cost, add}
 use Rattle.cost.specs.Charge.{text-cost, penalty-cost}
 use Rattle.layout.specs.Rules.{Rules}
 use Rattle.layout.specs.Layout.{Plan, blank, put, line, join, mark, fee, page, last}
-use Rattle.layout.specs.Spans.{Span, spans-from}
+use Rattle.layout.specs.Spans.{Span}
 use Rattle.layout.specs.Spans.{spans as spans-of}
-use Rattle.machine.specs.Events.{Prog, ret, emit, _>>=_, _>>_, say, need, Visit, visit, depth, output, spans}
+use Rattle.machine.specs.Events.{Prog, ret, _>>=_, _>>_, say, need, Visit, visit, depth, output, spans}
 use Rattle.machine.specs.Model.{Prepared, plan-at}
-use Rattle.machine.specs.Solve.{Solved, solve}
+use Rattle.machine.specs.Solve.{solve}
 
 -- how many spans a layout has
 abbrev pub marks : Plan → ℕ

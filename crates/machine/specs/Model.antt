@@ -1,5 +1,5 @@
 -- What the solver reads and holds, with the Rust's names. Numbers are without a bound; stores are plain lists.
-use mathlib.Core.Option.{Option, none, some}
+use mathlib.Core.Option.{Option}
 use mathlib.Core.List.{List, [], _∷_, _++_}
 use Prim.Native.Nat.{ℕ, zero, suc, _+_}
 use lib.ListN.{getD}
@@ -7,7 +7,6 @@ use Rattle.cost.specs.Cost.{Cost, zero-cost}
 use Rattle.memo.specs.declared.MemoKey.{MemoKey}
 use Rattle.memo.specs.declared.CandidateRange.{CandidateRange}
 use Rattle.memo.specs.Entries.{Entry}
-use Rattle.layout.specs.Document.{Word}
 use Rattle.layout.specs.Layout.{Plan, blank, put, line, join, mark, fee}
 use Rattle.layout.specs.Frontier.{Cand}
 use Rattle.layout.specs.Table.{Node, Table, Empty, Break, HardLine, Text, Seq, Fill, Group, Align, Nest, Choice, Annotate, Penalty}

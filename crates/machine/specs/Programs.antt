@@ -1,9 +1,9 @@
 -- Of programs: their result, how many events they have, the counts after them; and how these go over sequences.
 use mathlib.Core.Path.{_≡_, refl, sym, ap, _∙_}
 use mathlib.Core.Bool.{Bool, true, false, cond}
-use Prim.Native.Nat.{ℕ, suc, _+_, _<_}
+use Prim.Native.Nat.{ℕ, suc, _+_}
 use native.Mathlib.Omega.{arith}
-use Rattle.machine.specs.Events.{Prog, ret, emit, _>>=_, Event, Why, Counts, Bounds, Out, done, stop, run, passes, counted, why, needed}
+use Rattle.machine.specs.Events.{Prog, ret, emit, _>>=_, Why, Counts, Bounds, Out, done, stop, run, passes, counted, why, needed}
 
 abbrev pub value : {A : Type 0} → Prog A → A
 value (ret a) = a

@@ -1,15 +1,13 @@
 -- ExactSolver::solve: the tasks are worked off from the root on, and the best candidate of the root's frontier is taken.
-use mathlib.Core.Bool.{Bool, _&&_, _||_, not, cond}
+use mathlib.Core.Bool.{Bool, _&&_, _||_, cond}
 use mathlib.Core.List.{List, [], _∷_}
 use Prim.Native.Nat.{ℕ, zero, suc, _+_, _-_}
 use lib.Dec.{ltb}
 use lib.ListN.{length}
 use Rattle.cost.specs.Cost.{Cost, zero-cost, cheap, cheaper}
 use Rattle.layout.specs.Rules.{Rules}
-use Rattle.layout.specs.Layout.{Plan, blank}
-use Rattle.layout.specs.Table.{Node, Table}
 use Rattle.machine.specs.Events.{Prog, ret, emit, _>>=_, _>>_, say, PlanNodes, Never}
-use Rattle.machine.specs.Model.{Prepared, children, PlanNode, Candidate, within-range, memo-key, State, blank-state, Got}
+use Rattle.machine.specs.Model.{Prepared, children, PlanNode, Candidate, within-range, memo-key, State, blank-state}
 use Rattle.machine.specs.Model.{Task, Eval, CompleteAlias, CompleteUnion, CompleteChoiceSet, CompleteAnnotate, CompletePenalty, ContinueSequence, CompleteSequenceRight}
 use Rattle.machine.specs.Solver.{push-exact-task, pop-exact-result, step}
 

@@ -1,26 +1,25 @@
 -- ExactSolver, function by function: each step emits what the Rust tests and counts, in its order. No bound is known here.
-use mathlib.Core.Bool.{Bool, true, false, not, _&&_, _||_, cond}
+use mathlib.Core.Bool.{Bool, true, false, not}
 use mathlib.Core.Option.{Option, none, some}
 use mathlib.Core.List.{List, [], _∷_, _++_, map}
 use Prim.Native.Nat.{ℕ, zero, suc, _+_, _-_}
-use lib.Dec.{leb, ltb}
+use lib.Dec.{ltb}
 use lib.ListN.{length, take, drop, getD}
-use Rattle.cost.specs.Cost.{Cost, zero-cost, add, cheaper}
+use Rattle.cost.specs.Cost.{Cost, zero-cost, add}
 use Rattle.cost.specs.Charge.{text-cost, newline-cost, penalty-cost}
 use Rattle.cost.specs.declared.Reason.the-variants.{Column, Indent, Overflow, Burden}
 use Rattle.memo.specs.declared.MemoKey.{MemoKey}
 use Rattle.memo.specs.declared.CandidateRange.{CandidateRange}
 use Rattle.memo.specs.declared.MemoLookup.{MemoLookup}
 use Rattle.memo.specs.declared.MemoLookup.the-variants.{Found, Nothing}
-use Rattle.memo.specs.Entries.{Entry, lookup, stored}
-use Rattle.layout.specs.Document.{Word}
+use Rattle.memo.specs.Entries.{lookup, stored}
 use Rattle.layout.specs.Rules.{Rules}
-use Rattle.layout.specs.Table.{Node, Table, Empty, Break, HardLine, Text, Seq, Fill, Group, Align, Nest, Choice, Annotate, Penalty}
-use Rattle.layout.specs.Frontier.{Cand, covers}
+use Rattle.layout.specs.Table.{Node, Empty, Break, HardLine, Text, Seq, Fill, Group, Align, Nest, Choice, Annotate, Penalty}
+use Rattle.layout.specs.Frontier.{covers}
 use Rattle.layout.specs.Frontier.{present as presented}
 use Rattle.machine.specs.Events.{Prog, ret, emit, _>>=_, _>>_, say, need, Within, Hit, Miss, Generated, Pruned, Peak, Entries, Never, stack, memo, kept, frontier, plans}
 use Rattle.machine.specs.Model.{ExactChoice, Prepared, children, PlanNode, PlanEmpty, PlanText, PlanNewline, PlanConcat, PlanAnnotate, PlanPenalty, PendingPlan, Existing, Made}
-use Rattle.machine.specs.Model.{Ordered, Candidate, Scratch, scratch, no-candidate, part, range, within-range, memo-key}
+use Rattle.machine.specs.Model.{Candidate, Scratch, scratch, no-candidate, range, within-range, memo-key}
 use Rattle.machine.specs.Model.{Task, Eval, CompleteAlias, CompleteUnion, CompleteChoiceSet, CompleteAnnotate, CompletePenalty, ContinueSequence, CompleteSequenceRight}
 use Rattle.machine.specs.Model.{State, with-tasks, with-results, with-pending, with-memo, with-stores, with-builder, Got, got}
 

@@ -1,9 +1,9 @@
 -- Each step has an event, so the events that are left fall.
-use Prim.Native.Nat.{ℕ, zero, suc, _+_, _-_, _≤_, _<_}
+use Prim.Native.Nat.{ℕ, _+_, _-_, _<_}
 use native.Mathlib.Omega.{arith}
 use mathlib.Core.Bool.{Bool, true, false}
-use mathlib.Core.List.{List, [], _∷_, _++_}
-use mathlib.Core.Path.{_≡_, refl, sym, ap, _∙_, subst}
+use mathlib.Core.List.{List, _∷_}
+use mathlib.Core.Path.{_≡_, sym, ap, subst}
 use lib.Dec.{ltb}
 use lib.ListN.{length, take, drop, getD}
 use Rattle.cost.specs.Cost.{Cost, zero-cost}
@@ -15,10 +15,9 @@ use Rattle.memo.specs.declared.MemoLookup.the-variants.{Found, Nothing}
 use Rattle.memo.specs.Entries.{lookup}
 use Rattle.layout.specs.Document.{Doc}
 use Rattle.layout.specs.Rules.{Rules}
-use Rattle.layout.specs.Table.{Table}
 use Rattle.layout.specs.Table.{Reads as ReadsAs}
-use Rattle.machine.specs.Events.{Prog, ret, emit, _>>=_}
-use Rattle.machine.specs.Programs.{value, events, value-bind, events-bind}
+use Rattle.machine.specs.Events.{Prog, _>>=_}
+use Rattle.machine.specs.Programs.{value, events, events-bind}
 use Rattle.machine.specs.Model.{Prepared, children, PlanNode, PlanAnnotate, PlanPenalty, no-candidate, within-range, Task, Eval, CompleteAlias, CompleteUnion, CompleteChoiceSet, CompleteAnnotate, CompletePenalty, ContinueSequence, CompleteSequenceRight, State, with-tasks, with-results, Got}
 use Rattle.machine.specs.Solver.{push-exact-task, push-exact-result, pop-exact-result, begin-builder, finish-builder, union-ranges, wrap-range, push-joined, build-pending, present-ranges, gap-if-fill, push-child, complete-node, memo-insert, begin-known, begin-node, complete-alias, complete-union, complete-choice-set, complete-wrapped, push-right, next-child, continue-sequence, next-left, complete-sequence-right, execute-task, step, step-on}
 use Rattle.machine.specs.Solve.{rest}

@@ -1,30 +1,25 @@
 -- What the solver finds: the first least candidate of the root's frontier, with the plan that stands for its layout.
-use Prim.Native.Nat.{ℕ, zero, suc, _+_, _≤_, _<_}
+use Prim.Native.Nat.{ℕ, suc, _<_}
 use native.Mathlib.Omega.{arith}
-use mathlib.Core.Bool.{Bool, true, false, not, _&&_, _||_, cond, or-false, and-false}
-use mathlib.Core.Option.{Option, none, some}
-use mathlib.Core.List.{List, [], _∷_, _++_}
+use mathlib.Core.Bool.{Bool, true, false, _&&_, _||_, cond, or-false, and-false}
+use mathlib.Core.Option.{some}
+use mathlib.Core.List.{List, [], _∷_}
 use mathlib.Core.Path.{_≡_, refl, sym, ap, ap₂, _∙_, subst}
 use borrow.Author.Tests.{le-ltb}
-use lib.Dec.{ltb}
-use lib.ListN.{length, getElem?}
-use Rattle.cost.specs.Cost.{Cost, cheap, cheaper}
-use Rattle.memo.specs.declared.CandidateRange.{CandidateRange}
+use Rattle.cost.specs.Cost.{cheap, cheaper}
 use Rattle.layout.specs.Document.{Doc}
 use Rattle.layout.specs.Rules.{Rules}
 use Rattle.layout.specs.Layout.{Plan}
 use Rattle.layout.specs.Table.{Table}
 use Rattle.layout.specs.Table.{Reads as ReadsAs}
-use Rattle.layout.specs.Frontier.{Cand, front, least-from, least}
-use Rattle.machine.specs.Events.{Prog, ret, emit, _>>=_}
-use Rattle.machine.specs.Model.{Prepared, Candidate, Scratch, PlanNode, plan-at, part, Task, Eval, memo-key, State, blank-state, with-results, Got, got}
-use Rattle.machine.specs.Solver.{pop-exact-result}
+use Rattle.layout.specs.Frontier.{Cand, least-from, least}
+use Rattle.machine.specs.Model.{Prepared, Candidate, Scratch, plan-at, Task, Eval, memo-key, State, blank-state}
 use Rattle.machine.specs.Solve.{rest, Solved, before, least-key, best-of, solve-tasks, take-best, solve}
-use Rattle.meaning.specs.Relations.{All2, nil, cons, Some, Like, Holds, Den, Rising, rising-lower, laid, plan-at-is}
+use Rattle.meaning.specs.Relations.{All2, nil, cons, Some, Like, Holds, Rising, rising-lower, laid, plan-at-is}
 use Rattle.meaning.specs.Post.{Post, holds-of, says, post-bind, post-imp}
 use Rattle.meaning.specs.Rules.{task-post, pop-post}
 use Rattle.meaning.specs.Fronts.{Front, means}
-use Rattle.meaning.specs.Typed.{Cont, c-done, c-eval, RangeDen}
+use Rattle.meaning.specs.Typed.{Cont, c-done, c-eval}
 use Rattle.meaning.specs.Ready.{Ready}
 use Rattle.meaning.specs.Sound.{ResAt, Inv}
 use Rattle.meaning.specs.Rest.{Kept, rest-ends}
@@ -53,7 +48,7 @@ module _ {X Y : Type 0} {S : X → Y → Type 0} where
   cond-like true h g = h
   cond-like false h g = g
 
-  least-like : {x : Cand X} {u : Cand Y} {xs : List (Cand X)} {us : List (Cand Y)} → Like S x u → All2 (Like S) xs us → Like S (least-from x xs) (least-from u us)
+  pub least-like : {x : Cand X} {u : Cand Y} {xs : List (Cand X)} {us : List (Cand Y)} → Like S x u → All2 (Like S) xs us → Like S (least-from x xs) (least-from u us)
   least-like h nil = h
   least-like {x = x} {u = u} h (cons {a = y} {b = v} g t) =
       least-like (rw (ap₂ cheaper (g .same-cost) (h .same-cost)) (cond-like (cheaper (v .cost) (u .cost)) g h)) t

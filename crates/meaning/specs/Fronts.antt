@@ -1,11 +1,10 @@
 -- The frontiers of a table's nodes, and how a node's is made of those that it refers to.
-use Prim.Native.Nat.{ℕ, zero, suc, _+_}
+use Prim.Native.Nat.{ℕ}
 use mathlib.Core.Bool.{Bool, true, false}
-use mathlib.Core.List.{List, [], _∷_, _++_, map}
-use mathlib.Core.Path.{_≡_, refl, sym, ap, ap₂, _∙_}
-use lib.ListN.{length, drop}
+use mathlib.Core.List.{List, [], _∷_, map}
+use mathlib.Core.Path.{_≡_, refl}
 use Rattle.memo.specs.declared.MemoKey.{MemoKey}
-use Rattle.layout.specs.Document.{Doc, empty, text, newline, cat, nest, align, choice, annotate, penalty}
+use Rattle.layout.specs.Document.{Doc, text, newline, cat, choice}
 use Rattle.layout.specs.Rules.{Rules}
 use Rattle.layout.specs.Layout.{Plan, blank, put, line}
 use Rattle.layout.specs.Choice.{each}

@@ -15,3 +15,6 @@ pub mod Materialized
 pub mod Right
 pub mod Loop
 pub mod Pruned
+pub mod Fitting
+pub mod Columns
+pub mod Domain

@@ -1,17 +1,17 @@
 -- What the solver's loop relies on: it starts alive, a turn keeps it alive, is the rest's first step, and leaves fewer events.
-use Prim.Native.Nat.{ℕ, _<_, _≤_, _+_}
+use Prim.Native.Nat.{ℕ, _<_}
 use mathlib.Core.List.{List, [], _∷_}
-use mathlib.Core.Path.{_≡_, refl, subst}
+use mathlib.Core.Path.{_≡_}
 use Rattle.layout.specs.Document.{Doc}
 use Rattle.layout.specs.Rules.{Rules}
 use Rattle.layout.specs.Reading.{document, document-reads}
-use Rattle.machine.specs.Events.{Prog, ret, _>>=_}
+use Rattle.machine.specs.Events.{ret, _>>=_}
 use Rattle.machine.specs.Programs.{value}
 use Rattle.machine.specs.Model.{Prepared, Task, Eval, memo-key, State, blank-state, with-tasks}
 use Rattle.machine.specs.Solver.{step}
 use Rattle.machine.specs.Solve.{rest}
 use Rattle.meaning.specs.Post.{post-value}
-use Rattle.meaning.specs.Fronts.{Front, means}
+use Rattle.meaning.specs.Fronts.{Front}
 use Rattle.meaning.specs.Ready.{Ready}
 use Rattle.meaning.specs.Sound.{Inv}
 use Rattle.meaning.specs.Step.{step-good}

@@ -1,9 +1,8 @@
 -- The materializer's walk never comes to what cannot be; the cost that it would recount on the way is the layout's, and grows to it.
-use Prim.Native.Nat.{ℕ, zero, suc, _+_, _-_, _≤_, _<_}
+use Prim.Native.Nat.{ℕ, zero, suc, _+_, _≤_}
 use native.Mathlib.Omega.{arith}
-use mathlib.Core.List.{List, [], _∷_, _++_}
-use mathlib.Core.Path.{_≡_, refl, sym, ap, ap₂, _∙_, subst}
-use mathlib.Core.Option.{Option, none, some}
+use mathlib.Core.Path.{_≡_, refl, ap, ap₂, _∙_}
+use mathlib.Core.Option.{Option, some}
 use lib.ListN.{length, length-append}
 use Rattle.cost.specs.Cost.{Cost, zero-cost, add}
 use Rattle.cost.specs.Charge.{text-cost, newline-cost, penalty-cost}
@@ -13,7 +12,6 @@ use Rattle.layout.specs.Lawful.{Lawful}
 use Rattle.layout.specs.Layout.{Plan, blank, put, line, join, mark, fee, page, last}
 use Rattle.layout.specs.Spans.{spans-from}
 use Rattle.layout.specs.Running.{cost-from}
-use Rattle.machine.specs.Events.{Prog, ret, emit, _>>=_}
 use Rattle.machine.specs.Materializer.{marks, append-each, visit-plan, materialize, recount}
 use Rattle.meaning.specs.Post.{Post, holds-of, says, post-bind}
 

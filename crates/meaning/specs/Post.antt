@@ -1,7 +1,4 @@
 -- What holds at the end of a program that never comes to what the Rust says cannot be.
-use mathlib.Core.Path.{_≡_, refl, sym, ap, _∙_, subst}
-use mathlib.Core.Bool.{Bool, true, false}
-use Prim.Native.Nat.{ℕ, zero, suc, _+_, _≤_, _<_}
 use Rattle.machine.specs.Events.{Prog, ret, emit, _>>=_}
 use Rattle.machine.specs.Events.{Event, Need, Within, Hit, Miss, Generated, Visit, Pruned, Peak, Entries, PlanNodes, Never}
 use Rattle.machine.specs.Programs.{value}

@@ -1,13 +1,11 @@
 -- At every stop and at the end, no more candidates are pruned than were generated: those pruned and those in the builder were all presented.
-use Prim.Native.Nat.{ℕ, zero, suc, _+_, _-_, _≤_, _<_}
+use Prim.Native.Nat.{ℕ, zero, suc, _+_, _-_, _≤_}
 use native.Mathlib.Omega.{arith}
 use mathlib.Core.Bool.{Bool, true, false, not, cond}
 use mathlib.Core.Option.{Option, none, some}
-use mathlib.Core.List.{List, [], _∷_, _++_, map}
-use mathlib.Core.Path.{_≡_, refl, sym, ap, subst}
-use lib.Dec.{ltb}
-use lib.ListN.{length, take, drop, getD, length-append}
-use Rattle.cost.specs.Cost.{Cost, zero-cost, add}
+use mathlib.Core.List.{List, [], _∷_, _++_}
+use lib.ListN.{length, take, length-append}
+use Rattle.cost.specs.Cost.{Cost, zero-cost}
 use Rattle.cost.specs.Charge.{penalty-cost}
 use Rattle.memo.specs.declared.MemoKey.{MemoKey}
 use Rattle.memo.specs.declared.CandidateRange.{CandidateRange}
@@ -16,19 +14,19 @@ use Rattle.memo.specs.declared.MemoLookup.the-variants.{Found, Nothing}
 use Rattle.memo.specs.Entries.{lookup}
 use Rattle.layout.specs.Rules.{Rules}
 use Rattle.layout.specs.Layout.{Plan, blank, put, line, join, mark, fee, page}
-use Rattle.layout.specs.Table.{Node, Table, Empty, Break, HardLine, Text, Seq, Fill, Group, Align, Nest, Choice, Annotate, Penalty}
-use Rattle.layout.specs.Frontier.{Cand, covers, any, keep, cons-if}
+use Rattle.layout.specs.Table.{Node, Empty, Break, HardLine, Text, Seq, Fill, Group, Align, Nest, Choice, Annotate, Penalty}
+use Rattle.layout.specs.Frontier.{covers, any, keep, cons-if}
 use Rattle.layout.specs.Frontier.{present as presented}
 use Rattle.machine.specs.Events.{Bounds, Counts, no-counts, Event, Visit, Generated, Pruned, passes, counted, why, needed, Prog, ret, emit, _>>=_, Out, done, stop, run}
 use Rattle.machine.specs.Balance.{counts-of, counts-in}
-use Rattle.machine.specs.Model.{Prepared, ExactChoice, children, PlanNode, PlanAnnotate, PlanPenalty, Made, PlanText, plan-at, Candidate, Scratch, scratch, no-candidate, within-range, memo-key}
-use Rattle.machine.specs.Model.{Task, Eval, CompleteAlias, CompleteUnion, CompleteChoiceSet, CompleteAnnotate, CompletePenalty, ContinueSequence, CompleteSequenceRight, State, blank-state, with-tasks, with-results, with-pending, with-builder, Got, got}
-use Rattle.machine.specs.Solver.{push-exact-task, push-exact-result, push-pending, popped, pop-exact-result, checked-add, present, present-all, ranked, begin-builder, finish-builder, singleton, existing, present-range, union-ranges, present-wrapped, wrap-range, memo-insert, complete-node, push-joined, build-pending}
-use Rattle.machine.specs.Solver.{checked-text, newline, push-gaps, fill-boundary, push-child, complete-singleton, begin-empty, begin-text, begin-newline, begin-sequence, begin-union, begin-group, begin-nest, skip-choices, push-alternatives, begin-choice, begin-kind, begin-known, begin-node}
+use Rattle.machine.specs.Model.{Prepared, ExactChoice, PlanNode, PlanAnnotate, PlanPenalty, Candidate, Scratch, within-range}
+use Rattle.machine.specs.Model.{Task, Eval, CompleteAlias, CompleteUnion, CompleteChoiceSet, CompleteAnnotate, CompletePenalty, ContinueSequence, CompleteSequenceRight, State, blank-state, with-tasks, Got}
+use Rattle.machine.specs.Solver.{push-exact-task, push-exact-result, push-pending, popped, pop-exact-result, checked-add, present, present-all, ranked, begin-builder, finish-builder, singleton, present-range, union-ranges, present-wrapped, wrap-range, memo-insert, complete-node, push-joined, build-pending}
+use Rattle.machine.specs.Solver.{checked-text, push-gaps, fill-boundary, push-child, complete-singleton, begin-empty, begin-text, begin-newline, begin-sequence, begin-union, begin-group, begin-nest, skip-choices, push-alternatives, begin-choice, begin-kind, begin-known, begin-node}
 use Rattle.machine.specs.Solver.{complete-alias, complete-union, present-ranges, complete-choice-set, complete-wrapped, push-right, gap-if-fill, next-child, continue-sequence, next-left, complete-sequence-right, execute-task, step, step-on}
-use Rattle.machine.specs.Solve.{lefts-of, child-count, rights, continued, work-off, work-off-all, evaluated, rest, Solved, best-of, solve-tasks, take-best, solve}
-use Rattle.machine.specs.Materializer.{marks, append-each, visit-plan, materialize, Rendered, rendered, render}
-use Rattle.machine.specs.Answer.{Answer, paged, refused, answer, answer-of}
+use Rattle.machine.specs.Solve.{lefts-of, rights, continued, work-off, work-off-all, evaluated, rest, Solved, best-of, solve-tasks, take-best, solve}
+use Rattle.machine.specs.Materializer.{marks, append-each, visit-plan, materialize, Rendered, render}
+use Rattle.machine.specs.Answer.{answer, answer-of}
 
 pub record Fair (k : Counts) : Type 0 where
   pub fewer : k .candidates-pruned ≤ k .candidates-generated

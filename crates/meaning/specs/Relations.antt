@@ -1,16 +1,14 @@
 -- Lists related element by element; candidates of the same cost and column; what a pending plan and a range of the stores stand for; and that all this stands as the stores grow.
 use Prim.Native.Nat.{ℕ, zero, suc, _+_, _≤_, _<_}
 use native.Mathlib.Omega.{arith}
-use native.Mathlib.Numerals.{add-one}
 use native.Mathlib.Nat.{le-refl}
 use mathlib.Core.Bool.{Bool, true, false, not, _&&_, _||_, cond}
 use mathlib.Core.List.{List, [], _∷_, _++_, map, append-assoc, append-nil}
-use mathlib.Core.Option.{Option, some, none, Option·none-ne-some, Option·some-injective}
+use mathlib.Core.Option.{some, Option·none-ne-some, Option·some-injective}
 use mathlib.Core.Path.{_≡_, refl, sym, ap, ap₂, _∙_, subst}
 use lib.Dec.{ltb, eqb}
 use lib.ListN.{length, getElem?, getD, length-append}
 use Rattle.cost.specs.Cost.{Cost, cheap, cheaper}
-use Rattle.memo.specs.declared.CandidateRange.{CandidateRange}
 use Rattle.layout.specs.Layout.{Plan, blank, put, line, join, mark, fee}
 use Rattle.layout.specs.Frontier.{Cand, covers, any, keep, cons-if, present, load, build}
 use Rattle.layout.specs.Table.{Table}

@@ -1,30 +1,23 @@
 -- The run of the tasks: where there is a task, it is its step and then the rest; events are fewer after each step; it ends with one result, which stands for the goal.
 use Prim.Native.Nat.{ℕ, zero, suc, _+_, _-_, _≤_, _<_}
 use native.Mathlib.Omega.{arith}
-use native.Mathlib.Numerals.{add-one}
-use mathlib.Core.Bool.{Bool, true, false}
 use mathlib.Core.List.{List, [], _∷_, _++_, append-nil}
 use mathlib.Core.Path.{_≡_, refl, sym, ap, ap₂, _∙_, subst}
-use lib.Dec.{ltb}
 use lib.ListN.{length, length-append}
 use Rattle.memo.specs.declared.MemoKey.{MemoKey}
 use Rattle.memo.specs.declared.CandidateRange.{CandidateRange}
-use Rattle.memo.specs.declared.MemoLookup.{MemoLookup}
-use Rattle.memo.specs.declared.MemoLookup.the-variants.{Found, Nothing}
-use Rattle.memo.specs.Entries.{lookup}
 use Rattle.layout.specs.Document.{Doc}
 use Rattle.layout.specs.Rules.{Rules}
-use Rattle.layout.specs.Table.{Table}
 use Rattle.layout.specs.Table.{Reads as ReadsAs}
-use Rattle.machine.specs.Events.{Prog, ret, emit, _>>=_}
-use Rattle.machine.specs.Programs.{value, events, value-bind, events-bind, bind-at, bind-assoc}
-use Rattle.machine.specs.Model.{Prepared, children, Task, Eval, CompleteAlias, CompleteUnion, CompleteChoiceSet, CompleteAnnotate, CompletePenalty, ContinueSequence, CompleteSequenceRight, State, with-tasks, Got}
-use Rattle.machine.specs.Solver.{step, step-on}
+use Rattle.machine.specs.Events.{Prog, ret, _>>=_}
+use Rattle.machine.specs.Programs.{value, events, bind-at, bind-assoc}
+use Rattle.machine.specs.Model.{Prepared, Task, Eval, CompleteAlias, CompleteUnion, CompleteChoiceSet, CompleteAnnotate, CompletePenalty, ContinueSequence, CompleteSequenceRight, State}
+use Rattle.machine.specs.Solver.{step}
 use Rattle.machine.specs.Solve.{lefts-of, child-count, rights, continued, work-off, work-off-all, evaluated, rest}
 use Rattle.meaning.specs.Post.{Post, holds-of, says, post-bind, post-value, post-imp}
 use Rattle.meaning.specs.Fronts.{Front}
 use Rattle.meaning.specs.Ready.{Ready}
-use Rattle.meaning.specs.Sound.{Each, Inv, Leaves, Goes, Low, Pushed}
+use Rattle.meaning.specs.Sound.{Each, Inv, Leaves, Low, Pushed}
 use Rattle.meaning.specs.Sequences.{AfterContinue, ended, started, AfterRight, last-left, more-left}
 use Rattle.meaning.specs.Step.{After, step-good}
 

@@ -1,26 +1,24 @@
 -- The theorem: whatever the bounds, the answer is the page of the rule's answer, or one of the refusals 11 to 22.
-use Prim.Native.Nat.{ℕ, zero, suc, _+_, _≤_, _<_}
+use Prim.Native.Nat.{ℕ, _≤_}
 use native.Mathlib.Omega.{arith}
 use mathlib.Core.Bool.{Bool, true, false, cond, false≢true}
-use mathlib.Core.Path.{_≡_, refl, sym, ap, ap₂, _∙_, subst}
+use mathlib.Core.Path.{_≡_, refl, sym, ap₂, _∙_}
 use Rattle.cost.specs.declared.Reason.{Reason}
 use Rattle.cost.specs.declared.Reason.the-variants.{Column, Indent, Overflow, Burden}
-use Rattle.cost.specs.Cost.{Cost, zero-cost}
+use Rattle.cost.specs.Cost.{zero-cost}
 use Rattle.layout.specs.Document.{Doc}
 use Rattle.layout.specs.Rules.{Rules}
 use Rattle.layout.specs.Lawful.{Lawful}
 use Rattle.layout.specs.Layout.{Plan}
 use Rattle.layout.specs.Choice.{price}
 use Rattle.layout.specs.Cheapest.{Answer as RuleAnswer}
-use Rattle.layout.specs.Table.{Table}
-use Rattle.layout.specs.Table.{Reads as ReadsAs}
 use Rattle.layout.specs.Reading.{document, document-reads}
 use Rattle.layout.specs.Telescope.{price-is}
 use Rattle.layout.specs.Answers.{front-answer}
-use Rattle.machine.specs.Events.{Bounds, Counts, no-counts, Kind, stack, memo, kept, frontier, plans, visit, depth, output, spans, passes, counted, needed, why, Why, domain, work-spent, too-small, visits-spent, impossible, number, Prog, ret, emit, _>>=_, Out, done, stop, run}
+use Rattle.machine.specs.Events.{Bounds, Counts, no-counts, Kind, stack, memo, kept, frontier, plans, visit, depth, output, spans, passes, counted, needed, why, Why, domain, work-spent, too-small, visits-spent, impossible, number, Prog, Out, done, stop, run}
 use Rattle.machine.specs.Events.{Event, Need, Within, Hit, Miss, Generated, Visit, Pruned, Peak, Entries, PlanNodes, Never}
 use Rattle.machine.specs.Model.{Prepared, plan-at}
-use Rattle.machine.specs.Solve.{Solved, solve}
+use Rattle.machine.specs.Solve.{Solved}
 use Rattle.machine.specs.Materializer.{Rendered, rendered, render, recount}
 use Rattle.machine.specs.Answer.{Answer, paged, refused, answer, answer-of}
 use Rattle.meaning.specs.Post.{Can, Post, holds-of, says, post-bind, post-imp}

@@ -1,21 +1,18 @@
 -- What the solver's operations come to: a rule for each, in the form "if Q holds of every way that it can go on, then Post Q".
-use Prim.Native.Nat.{ℕ, zero, suc, _+_, _≤_, _<_}
-use native.Mathlib.Omega.{arith}
+use Prim.Native.Nat.{ℕ, _+_}
 use native.Mathlib.Numerals.{add-one}
-use mathlib.Core.Bool.{Bool, true, false}
-use mathlib.Core.List.{List, [], _∷_, _++_, map, append-assoc, append-nil}
-use mathlib.Core.Path.{_≡_, refl, sym, ap, ap₂, _∙_, subst}
-use lib.ListN.{length, take, drop}
+use mathlib.Core.List.{List, [], _∷_, _++_}
+use mathlib.Core.Path.{sym, subst}
+use lib.ListN.{length}
 use Rattle.cost.specs.Cost.{Cost, add}
 use Rattle.memo.specs.declared.CandidateRange.{CandidateRange}
 use Rattle.layout.specs.Layout.{Plan}
-use Rattle.layout.specs.Frontier.{Cand, covers, load, build}
+use Rattle.layout.specs.Frontier.{Cand, covers, load}
 use Rattle.layout.specs.Frontier.{present as presented}
 use Rattle.layout.specs.Table.{Table}
-use Rattle.machine.specs.Events.{Prog, ret, emit, _>>=_}
-use Rattle.machine.specs.Model.{PlanNode, Task, State, with-tasks, with-results, with-pending, with-builder, with-stores, Scratch, scratch, Candidate, Got, got, range, layouts-after}
-use Rattle.machine.specs.Solver.{push-exact-task, push-exact-result, push-pending, popped, checked-add, present, present-all, ranked, begin-builder, finish-builder, committed, additional-plans}
-use Rattle.meaning.specs.Relations.{All2, nil, cons, Some, some-build, Like, Ext, ext-by, Waits, Holds, Rise, rise-present, present-like, rising-committed, laid, laid-length, laid-append, commits, length-committed, Den, den-new}
+use Rattle.machine.specs.Model.{PlanNode, Task, State, with-tasks, with-results, with-pending, with-builder, with-stores, Scratch, Candidate, Got, got, range, layouts-after}
+use Rattle.machine.specs.Solver.{push-exact-task, push-exact-result, push-pending, popped, checked-add, present, present-all, ranked, finish-builder, committed, additional-plans}
+use Rattle.meaning.specs.Relations.{All2, nil, cons, Some, Ext, ext-by, Waits, Holds, Rise, rise-present, present-like, rising-committed, laid, laid-length, laid-append, commits, length-committed, Den, den-new}
 use Rattle.meaning.specs.Post.{Post, holds-of, says, post-bind}
 
 pub task-post : (x : Task) (S : State) {Q : State → Type 0} → Q (with-tasks (x ∷ S .tasks) S) → Post Q (push-exact-task x S)

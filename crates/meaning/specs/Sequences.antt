@@ -1,49 +1,41 @@
 -- The tasks of a sequence keep the typed stack, and what they push.
-use Prim.Native.Nat.{ℕ, zero, suc, _+_, _-_, _≤_, _<_}
+use Prim.Native.Nat.{ℕ, zero, suc, _+_, _≤_, _<_}
 use native.Mathlib.Omega.{arith}
 use native.Mathlib.Numerals.{add-one}
 use mathlib.Core.Bool.{Bool, true, false}
-use mathlib.Core.Option.{Option, none, some}
 use mathlib.Core.List.{List, [], _∷_, _++_, map, append-assoc, append-nil}
 use mathlib.Core.List.{List·Memᴰ as In, List·Memᴰ·head as here, List·Memᴰ·tail as there, List·Memᴰ·not-nil as not-in-nil}
 use mathlib.Core.Path.{_≡_, refl, sym, ap, ap₂, _∙_, subst}
 use borrow.Author.Tests.{ltb-true, ltb-false}
 use lib.Dec.{ltb}
-use lib.ListN.{length, take, drop, getD, length-append}
+use lib.ListN.{length, take, drop, getD}
 use lib.Seq.{take-append-seam, drop-append-seam}
-use Rattle.cost.specs.Cost.{Cost, zero-cost, add}
-use Rattle.cost.specs.Charge.{text-cost, newline-cost, penalty-cost}
+use Rattle.cost.specs.Cost.{Cost}
+use Rattle.cost.specs.Charge.{text-cost}
 use Rattle.memo.specs.declared.MemoKey.{MemoKey}
 use Rattle.memo.specs.declared.CandidateRange.{CandidateRange}
-use Rattle.memo.specs.declared.MemoLookup.{MemoLookup}
-use Rattle.memo.specs.declared.MemoLookup.the-variants.{Found, Nothing}
-use Rattle.memo.specs.Entries.{Entry, lookup, stored}
 use Rattle.layout.specs.Document.{Word, Doc}
 use Rattle.layout.specs.Rules.{Rules}
-use Rattle.layout.specs.Layout.{Plan, blank, put, line}
+use Rattle.layout.specs.Layout.{Plan, put}
 use Rattle.layout.specs.Choice.{each}
-use Rattle.layout.specs.Table.{Node, Table, Empty, Break, HardLine, Text, Seq, Fill, Group, Align, Nest, Choice, Annotate, Penalty, shape, group-doc}
-use Rattle.layout.specs.Table.{Reads as ReadsAs}
-use Rattle.layout.specs.References.{refers, flat-of, Ranked, RightList, two, more}
-use Rattle.layout.specs.Frontier.{Cand, cand, after, marked, charged, covers, load, build, front}
-use Rattle.layout.specs.Frontier.{present as presented}
-use Rattle.layout.specs.Sieve.{load-append}
-use Rattle.layout.specs.ChoiceLists.{list-front}
-use Rattle.machine.specs.Events.{Prog, ret, emit, _>>=_}
-use Rattle.machine.specs.Model.{Prepared, ExactChoice, children, PlanNode, PlanEmpty, PlanText, PlanNewline, PlanConcat, PlanAnnotate, PlanPenalty, PendingPlan, Existing, Made, Candidate, Scratch, scratch, no-candidate, part, range, within-range, memo-key}
-use Rattle.machine.specs.Model.{Task, Eval, CompleteAlias, CompleteUnion, CompleteChoiceSet, CompleteAnnotate, CompletePenalty, ContinueSequence, CompleteSequenceRight, State, with-tasks, with-results, with-pending, with-memo, with-stores, with-builder, Got, got}
-use Rattle.machine.specs.Solver.{push-exact-task, push-exact-result, push-pending, popped, pop-exact-result, checked-add, present, present-all, begin-builder, finish-builder, singleton, existing, present-range, union-ranges, present-wrapped, wrap-range, memo-insert, complete-node, push-joined, build-pending}
-use Rattle.machine.specs.Solver.{checked-text, newline, push-gaps, fill-boundary, push-child, complete-singleton, begin-empty, begin-text, begin-newline, begin-sequence, begin-union, begin-group, begin-nest, skip-choices, push-alternatives, begin-choice, begin-kind, begin-known, begin-node}
-use Rattle.machine.specs.Solver.{complete-alias, complete-union, present-ranges, complete-choice-set, complete-wrapped, push-right, gap-if-fill, next-child, continue-sequence, next-left, complete-sequence-right, execute-task}
-use Rattle.meaning.specs.Relations.{All2, nil, cons, all2-append, all2-imp, all2-map, all2-length, Some, some-present, some-build, some-append, some-map, Like, Ext, ext-refl, ext-trans, Reads, as-existing, as-empty, as-text, as-newline, as-concat, as-annotate, as-penalty, laid, Waits, Holds, waits-grow, holds-grow, Den, den-grow, Rise, Rising, rising-lower}
+use Rattle.layout.specs.Table.{Node, Table, Empty, Break, HardLine, Text, Seq, Fill, Group, Align, Nest, Choice, Annotate, Penalty}
+use Rattle.layout.specs.References.{refers}
+use Rattle.layout.specs.Frontier.{Cand, cand, after, covers, load, build, front}
+use Rattle.machine.specs.Events.{_>>=_}
+use Rattle.machine.specs.Model.{Prepared, children, PlanNode, PlanText, Made, Candidate, Scratch, scratch, no-candidate, part, range, within-range, memo-key}
+use Rattle.machine.specs.Model.{Task, Eval, ContinueSequence, CompleteSequenceRight, State, with-results, with-pending, with-stores, with-builder, Got, got}
+use Rattle.machine.specs.Solver.{begin-builder, finish-builder, push-joined, build-pending}
+use Rattle.machine.specs.Solver.{checked-text, newline, push-gaps, fill-boundary}
+use Rattle.machine.specs.Solver.{push-right, gap-if-fill, next-child, continue-sequence, next-left, complete-sequence-right}
+use Rattle.meaning.specs.Relations.{All2, nil, cons, Some, some-present, some-build, some-append, some-map, Ext, ext-refl, ext-trans, Reads, as-text, as-newline, laid, Waits, Holds, holds-grow, Den, Rising, rising-lower}
 use Rattle.meaning.specs.Post.{Post, holds-of, says, post-bind}
-use Rattle.meaning.specs.Rules.{task-post, result-post, pending-post, add-post, pop-post, present-post, present-all-post, finish-post}
-use Rattle.meaning.specs.Fronts.{Front, is-fill, joins, gap, spacing, seqs, means, Sequence, seq-is, fill-is}
-use Rattle.meaning.specs.Typed.{Pile, pile-grow, flatten, kids, Cont, c-done, c-eval, c-alias, c-union, c-set, c-annotate, c-penalty, c-continue, c-right, cont-grow, RangeDen, MemoOk, memo-grow, stored-ok, lookup-ok}
+use Rattle.meaning.specs.Rules.{task-post, result-post, pop-post, present-post, present-all-post, finish-post}
+use Rattle.meaning.specs.Fronts.{Front, is-fill, joins, gap, spacing, seqs, means}
+use Rattle.meaning.specs.Typed.{Pile, pile-grow, kids, Cont, c-continue, c-right, cont-grow, RangeDen, memo-grow}
 use Rattle.meaning.specs.Ready.{Ready}
-use Rattle.meaning.specs.Sound.{Each, ContAt, ResAt, MemoAt, Inv, Leaves, Goes, Ends, res-grow, complete-good, finish-good, child-good, Low, Pushed, lower, known-begins}
+use Rattle.meaning.specs.Sound.{ContAt, ResAt, MemoAt, Leaves, Goes, res-grow, complete-good, child-good, lower}
 use Rattle.meaning.specs.Relations.{Slice, slice-grow, Headed, headed}
-use Rattle.meaning.specs.Tasks.{some-after, joined-post, alias-good, union-good, wrapped-good, annotate-like, penalty-like, set-good}
+use Rattle.meaning.specs.Tasks.{some-after, joined-post}
 
 drop-all : (l : List ℕ) (x : ℕ) → length l ≤ x → drop x l ≡ []
 drop-all [] zero h = refl

@@ -1,51 +1,27 @@
 -- A step of any task: it keeps the invariant, and what it leaves of the tasks.
-use Prim.Native.Nat.{ℕ, zero, suc, _+_, _-_, _≤_, _<_}
-use native.Mathlib.Omega.{arith}
-use native.Mathlib.Numerals.{add-one}
-use mathlib.Core.Bool.{Bool, true, false}
-use mathlib.Core.Option.{Option, none, some}
-use mathlib.Core.List.{List, [], _∷_, _++_, map, append-assoc, append-nil}
-use mathlib.Core.List.{List·Memᴰ as In, List·Memᴰ·head as here, List·Memᴰ·tail as there, List·Memᴰ·not-nil as not-in-nil}
-use mathlib.Core.Path.{_≡_, refl, sym, ap, ap₂, _∙_, subst}
-use borrow.Author.Tests.{ltb-true, ltb-false}
-use lib.Dec.{ltb}
-use lib.ListN.{length, take, drop, getD, length-append}
-use lib.Seq.{take-append-seam, drop-append-seam}
-use Rattle.cost.specs.Cost.{Cost, zero-cost, add}
-use Rattle.cost.specs.Charge.{text-cost, newline-cost, penalty-cost}
-use Rattle.memo.specs.declared.MemoKey.{MemoKey}
-use Rattle.memo.specs.declared.CandidateRange.{CandidateRange}
-use Rattle.memo.specs.declared.MemoLookup.{MemoLookup}
-use Rattle.memo.specs.declared.MemoLookup.the-variants.{Found, Nothing}
-use Rattle.memo.specs.Entries.{Entry, lookup, stored}
-use Rattle.layout.specs.Document.{Word, Doc}
+use Prim.Native.Nat.{ℕ}
+use mathlib.Core.List.{List, _∷_}
+use mathlib.Core.Path.{_≡_, refl, sym, subst}
+use Rattle.cost.specs.Cost.{zero-cost}
+use Rattle.cost.specs.Charge.{penalty-cost}
+use Rattle.memo.specs.Entries.{lookup}
+use Rattle.layout.specs.Document.{Doc}
 use Rattle.layout.specs.Rules.{Rules}
-use Rattle.layout.specs.Layout.{Plan, blank, put, line}
-use Rattle.layout.specs.Choice.{each}
-use Rattle.layout.specs.Table.{Node, Table, Empty, Break, HardLine, Text, Seq, Fill, Group, Align, Nest, Choice, Annotate, Penalty, shape, group-doc}
+use Rattle.layout.specs.Table.{Table}
 use Rattle.layout.specs.Table.{Reads as ReadsAs}
-use Rattle.layout.specs.References.{refers, flat-of, Ranked, RightList, two, more}
-use Rattle.layout.specs.Frontier.{Cand, cand, after, marked, charged, covers, load, build, front}
-use Rattle.layout.specs.Frontier.{present as presented}
-use Rattle.layout.specs.Sieve.{load-append}
-use Rattle.layout.specs.ChoiceLists.{list-front}
-use Rattle.machine.specs.Events.{Prog, ret, emit, _>>=_}
-use Rattle.machine.specs.Model.{Prepared, ExactChoice, children, PlanNode, PlanEmpty, PlanText, PlanNewline, PlanConcat, PlanAnnotate, PlanPenalty, PendingPlan, Existing, Made, Candidate, Scratch, scratch, no-candidate, part, range, within-range, memo-key}
-use Rattle.machine.specs.Model.{Task, Eval, CompleteAlias, CompleteUnion, CompleteChoiceSet, CompleteAnnotate, CompletePenalty, ContinueSequence, CompleteSequenceRight, State, with-tasks, with-results, with-pending, with-memo, with-stores, with-builder, Got, got}
-use Rattle.machine.specs.Solver.{push-exact-task, push-exact-result, push-pending, popped, pop-exact-result, checked-add, present, present-all, begin-builder, finish-builder, singleton, existing, present-range, union-ranges, present-wrapped, wrap-range, memo-insert, complete-node, push-joined, build-pending}
-use Rattle.machine.specs.Solver.{checked-text, newline, push-gaps, fill-boundary, push-child, complete-singleton, begin-empty, begin-text, begin-newline, begin-sequence, begin-union, begin-group, begin-nest, skip-choices, push-alternatives, begin-choice, begin-kind, begin-known, begin-node}
-use Rattle.machine.specs.Solver.{complete-alias, complete-union, present-ranges, complete-choice-set, complete-wrapped, push-right, gap-if-fill, next-child, continue-sequence, next-left, complete-sequence-right, execute-task}
-use Rattle.meaning.specs.Relations.{All2, nil, cons, all2-append, all2-imp, all2-map, all2-length, Some, some-present, some-build, some-append, some-map, Like, Ext, ext-refl, ext-trans, Reads, as-existing, as-empty, as-text, as-newline, as-concat, as-annotate, as-penalty, laid, Waits, Holds, waits-grow, holds-grow, Den, den-grow, Rise, Rising, rising-lower}
-use Rattle.meaning.specs.Post.{Post, holds-of, says, post-bind}
-use Rattle.meaning.specs.Rules.{task-post, result-post, pending-post, add-post, pop-post, present-post, present-all-post, finish-post}
-use Rattle.meaning.specs.Fronts.{Front, is-fill, joins, gap, spacing, seqs, means, Sequence, seq-is, fill-is}
-use Rattle.meaning.specs.Typed.{Pile, pile-grow, flatten, kids, Cont, c-done, c-eval, c-alias, c-union, c-set, c-annotate, c-penalty, c-continue, c-right, cont-grow, RangeDen, MemoOk, memo-grow, stored-ok, lookup-ok}
+use Rattle.layout.specs.Frontier.{marked, charged}
+use Rattle.machine.specs.Model.{Prepared, PlanAnnotate, PlanPenalty}
+use Rattle.machine.specs.Model.{Task, Eval, CompleteAlias, CompleteUnion, CompleteChoiceSet, CompleteAnnotate, CompletePenalty, ContinueSequence, CompleteSequenceRight, State, with-tasks}
+use Rattle.machine.specs.Solver.{begin-node}
+use Rattle.machine.specs.Solver.{execute-task}
+use Rattle.meaning.specs.Relations.{laid}
+use Rattle.meaning.specs.Fronts.{Front}
+use Rattle.meaning.specs.Typed.{Cont, c-eval, c-alias, c-union, c-set, c-annotate, c-penalty, c-continue, c-right}
 use Rattle.meaning.specs.Ready.{Ready}
-use Rattle.meaning.specs.Sound.{Each, ContAt, ResAt, MemoAt, Inv, Leaves, Goes, Ends, res-grow, complete-good, finish-good, child-good, Low, Pushed, lower, known-begins}
-use Rattle.meaning.specs.Relations.{Slice, slice-grow, Headed, headed}
-use Rattle.meaning.specs.Tasks.{some-after, joined-post, alias-good, union-good, wrapped-good, annotate-like, penalty-like, set-good}
+use Rattle.meaning.specs.Sound.{ResAt, MemoAt, Inv, Goes, Pushed, known-begins}
+use Rattle.meaning.specs.Tasks.{alias-good, union-good, wrapped-good, annotate-like, penalty-like, set-good}
 use Rattle.machine.specs.Solver.{step, step-on}
-use Rattle.meaning.specs.Sequences.{AfterContinue, ended, started, AfterRight, last-left, more-left, continue-good, right-good}
+use Rattle.meaning.specs.Sequences.{AfterContinue, AfterRight, continue-good, right-good}
 
 module _ (R : Rules) (P : Prepared) (D : ℕ → Doc) (goal : Front) (K : Ready P) (reads : ReadsAs (P .table) D) where
   abbrev T : Table

@@ -1,24 +1,23 @@
 -- The typed stack: `Cont goal k ps ts Es qs` says that the tasks ts, with the pending candidates qs, wait for results that stand for the frontiers Es, top first, and then leave the goal's.
-use Prim.Native.Nat.{ℕ, zero, suc, _+_, _≤_, _<_}
+use Prim.Native.Nat.{ℕ, suc, _+_, _<_}
 use native.Mathlib.Omega.{arith}
 use mathlib.Core.Bool.{Bool, true, false, _&&_}
 use mathlib.Core.List.{List, [], _∷_, _++_, map}
-use mathlib.Core.Path.{_≡_, refl, sym, ap, ap₂, _∙_, subst}
+use mathlib.Core.Path.{_≡_, refl, subst}
 use lib.ListN.{length, drop, getD}
 use lib.Dec.{eqb}
 use borrow.Author.Tests.{eqb-true}
 use Rattle.cost.specs.Logic.{and-left, and-right}
 use Rattle.memo.specs.declared.MemoKey.{MemoKey}
 use Rattle.memo.specs.declared.CandidateRange.{CandidateRange}
-use Rattle.memo.specs.declared.MemoLookup.{MemoLookup}
-use Rattle.memo.specs.declared.MemoLookup.the-variants.{Found, Nothing}
+use Rattle.memo.specs.declared.MemoLookup.the-variants.{Found}
 use Rattle.memo.specs.Entries.{Entry, same, lookup, stored, pick}
 use Rattle.layout.specs.Document.{Doc}
 use Rattle.layout.specs.Rules.{Rules}
 use Rattle.layout.specs.Layout.{Plan}
 use Rattle.layout.specs.Table.{Table}
 use Rattle.layout.specs.Frontier.{Cand, covers, build, front, marked, charged}
-use Rattle.machine.specs.Model.{Prepared, children, Candidate, Scratch, Task, Eval, CompleteAlias, CompleteUnion, CompleteChoiceSet, CompleteAnnotate, CompletePenalty, ContinueSequence, CompleteSequenceRight}
+use Rattle.machine.specs.Model.{children, Candidate, Scratch, Task, Eval, CompleteAlias, CompleteUnion, CompleteChoiceSet, CompleteAnnotate, CompletePenalty, ContinueSequence, CompleteSequenceRight}
 use Rattle.meaning.specs.Relations.{All2, all2-imp, Some, Ext, Waits, waits-grow, Den, den-grow}
 use Rattle.meaning.specs.Fronts.{Front, is-fill, joins, seqs, means}
 
