@@ -1,0 +1,85 @@
+-- Every answer is as promised; under sizes and limits none smaller a page stays the same page, counts too; the counts balance.
+use mathlib.Core.Path.{_≡_, refl, ap, subst}
+use mathlib.Core.List.{List}
+use Prim.Native.Nat.{ℕ, _≤_}
+use native.Mathlib.Omega.{arith}
+use Rattle.layout.specs.Squares.{squares-lawful}
+use Rattle.encode.specs.Fields.{Bytes}
+use Rattle.machine.specs.Events.{Bounds, Counts}
+use Rattle.machine.specs.Materializer.{Rendered}
+use Rattle.machine.specs.Answer.{Answer, paged, refused, answer}
+use Rattle.machine.specs.Balance.{Balanced, counts-in, balanced-answer}
+use Rattle.machine.specs.Larger.{Larger, larger-answer}
+use Rattle.meaning.specs.Pruned.{Fair, fair-answer}
+use Rattle.meaning.specs.Right.{RightPage, Right, answer-right}
+use Rattle.meaning.specs.Right.{right-page as found-page, right-refusal as found-refusal}
+use Rattle.answer.specs.Answer.{Settings, rules-of, document-of, Answers, out-of-order, wrong-file, laid-out}
+use Rattle.answer.specs.Page.{RulesPage, Promised, right-page, right-refusal}
+use Rattle.answer.specs.Ready.{means-ready}
+use Rattle.answer.specs.Faults.{file-faults}
+use Rattle.answer.specs.Exactly.{answers-one}
+
+-- ---- every answer is as promised
+
+rules-page : (file : List ℕ) (c : Settings) {r : Rendered} → RightPage (rules-of c) (document-of file) r → RulesPage file c r
+rules-page file c p = record {
+  layout = p .layout;
+  rule = p .rule;
+  bytes-are = ap (λ (x : Rendered). x .bytes) (p .is);
+  spans-are = ap (λ (x : Rendered). x .spans) (p .is);
+  overflow-is = ap (λ (x : Rendered). x .cost .overflow) (p .is);
+  burden-is = ap (λ (x : Rendered). x .cost .burden) (p .is);
+}
+
+promised-of : (file : List ℕ) (c : Settings) {a : Answer} → Right (rules-of c) (document-of file) a → Promised file c a
+promised-of file c (found-page p) = right-page (rules-page file c p)
+promised-of file c (found-refusal {n = n} l h) = right-refusal {n = n} (omega (arith, l)) h
+
+module _ {lent : Type 0} {file : List ℕ} {c : Settings} {b : Bounds} (z : Bytes file) where
+  pub promised : {a : Answer} → Answers lent file c b a → Promised file c a
+  promised (out-of-order n) = right-refusal {n = 1} (omega arith) (omega arith)
+  promised (wrong-file n o m) = let h = file-faults m in right-refusal {n = n} (omega (arith, h .0)) (omega (arith, h .1))
+  promised (laid-out o m) = promised-of file c (answer-right (rules-of c) (squares-lawful (c .width) (c .newline-cost) (c .policy)) (document-of file) (means-ready file z m) b)
+
+  pub page-right : {r : Rendered} {k : Counts} → Answers lent file c b (paged r k) → RulesPage file c r
+  page-right {r} {k} a = go (promised a)
+    where
+      go : Promised file c (paged r k) → RulesPage file c r
+      go (right-page p) = p
+
+  pub refusal-right : {n m : ℕ} {k : Counts} → Answers lent file c b (refused n m k) → (1 ≤ n) × (n ≤ 22)
+  refusal-right {n} {m} {k} a = go (promised a)
+    where
+      go : Promised file c (refused n m k) → (1 ≤ n) × (n ≤ 22)
+      go (right-refusal l h) = (l, h)
+
+-- ---- under sizes and limits none smaller
+
+module _ {lent wider : Type 0} {file : List ℕ} {c : Settings} {b d : Bounds} (L : Larger b d) (w : wider) where
+  larger-page : {a : Answer} (r : Rendered) (k : Counts) → Answers lent file c b a → a ≡ paged r k → Answers wider file c d (paged r k)
+  larger-page r k (out-of-order n) e = let z : _≡_ {A = ℕ} 0 1 = cc in absurd (omega arith)
+  larger-page r k (wrong-file n o m) e = let z : _≡_ {A = ℕ} 0 1 = cc in absurd (omega arith)
+  larger-page r k (laid-out o m) e =
+      subst (λ (a : Answer). Answers wider file c d a) (larger-answer b d L (rules-of c) (document-of file) r k e)
+      (laid-out (record { wide = o .wide; policy-known = o .policy-known; lent-enough = w }) m)
+
+  -- the answer is the same page, with the same counts, and no other
+  pub same-page : {r : Rendered} {k : Counts} → Answers lent file c b (paged r k) → Answers wider file c d (paged r k)
+  same-page {r} {k} a = larger-page r k a refl
+
+  pub only-page : {r : Rendered} {k : Counts} {a : Answer} → Answers lent file c b (paged r k) → Answers wider file c d a → a ≡ paged r k
+  only-page p q = answers-one q (same-page p)
+
+-- ---- the counts
+
+-- work = hits + misses + generated, at every answer
+pub balanced : {lent : Type 0} {file : List ℕ} {c : Settings} {b : Bounds} {a : Answer} → Answers lent file c b a → Balanced (counts-in a)
+balanced (out-of-order n) = record { sum = refl }
+balanced (wrong-file n o m) = record { sum = refl }
+balanced {file = file} {c = c} {b = b} (laid-out o m) = balanced-answer (rules-of c) (document-of file) b
+
+-- pruned ≤ generated, likewise
+pub fair : {lent : Type 0} {file : List ℕ} {c : Settings} {b : Bounds} {a : Answer} → Answers lent file c b a → Fair (counts-in a)
+fair (out-of-order n) = record { fewer = omega arith }
+fair (wrong-file n o m) = record { fewer = omega arith }
+fair {file = file} {c = c} {b = b} (laid-out o m) = fair-answer (rules-of c) (document-of file) b

@@ -1,0 +1,9 @@
+-- what a call answers
+pub mod Answer
+pub mod Page
+-- theorems
+pub mod Ready
+pub mod Faults
+pub mod Exactly
+pub mod Demand
+pub mod Cases

@@ -1,0 +1,1 @@
+// The one definition of what a call answers, and its theorems: in specs/.

@@ -1,0 +1,11 @@
+pub mod Encode
+pub mod Faults
+pub mod Fields
+pub mod Maps
+pub mod HeaderTrip
+pub mod NodeTrip
+pub mod NumberTrip
+pub mod TextTrip
+pub mod Trips
+pub mod AsRead
+pub mod Size

@@ -1,0 +1,2 @@
+// What tables can have wrong by themselves.
+pub mod faults;

@@ -1,0 +1,5 @@
+pub mod Kinds
+pub mod Nodes
+pub mod Numbers
+pub mod Texts
+pub mod Form

@@ -1,0 +1,153 @@
+-- Theorems of the prepared file: one answer to a byte string; an accepted file is the encoding of its tables, so that no two mean the same;
+-- what was read and is written again has the same bytes; what was written and is read again has the same tables.
+use mathlib.Core.Path.{_≡_, refl, sym, ap, _∙_}
+use mathlib.Core.List.{List, _++_}
+use Prim.Native.Nat.{ℕ, _≤_, min}
+use native.Mathlib.Omega.{arith}
+use lib.ListN.{length, take, drop, length-take}
+use lib.Seq.{take-at}
+use Rattle.tables.specs.Tables.{Tables}
+use Rattle.form.specs.declared.fill.Counts.{Counts}
+use Rattle.form.specs.Form.{formFault, tablesOf, countsOf, Holds}
+use Rattle.encode.specs.Encode.{encode, lengths, Sized}
+use Rattle.encode.specs.Faults.{tablesFault}
+use Rattle.encode.specs.Fields.{Bytes}
+use Rattle.encode.specs.Trips.{Encoded, encoded, ReadsBack, reads-back}
+use Rattle.put.specs.Put.{tablesIn}
+use Rattle.rules.specs.Judged.{Judged, Accepted as Kept, reference, text, space, circle, list, accepted}
+use Rattle.prepare.specs.declared.read.Answer.{Answer}
+use Rattle.prepare.specs.declared.read.Answer.the-variants.{Accepted, Refused}
+use Rattle.prepare.specs.declared.write.Outcome.{Outcome}
+use Rattle.prepare.specs.declared.write.Outcome.the-variants.{Written}
+use Rattle.prepare.specs.File.{Means, ill, wrong, right}
+use Rattle.prepare.specs.Writing.{Writes, order, ill as not-formed, wrong as not-kept, room, written, lentTables, LentAt}
+
+-- ---- one answer
+
+-- the first refusal of 6 to 10 is one number
+pub judged-one : {t : Tables} {m n : ℕ} → Judged t m → Judged t n → m ≡ n
+judged-one (reference a) (reference b) = refl
+judged-one (reference a) (text b c) = absurd (a b)
+judged-one (reference a) (space b c d) = absurd (a b)
+judged-one (reference a) (circle b c d e) = absurd (a b)
+judged-one (reference a) (list b c d e f) = absurd (a b)
+judged-one (reference a) (accepted b) = absurd (a (b .references))
+judged-one (text a b) (reference c) = absurd (c a)
+judged-one (text a b) (text c d) = refl
+judged-one (text a b) (space c d e) = absurd (b d)
+judged-one (text a b) (circle c d e f) = absurd (b d)
+judged-one (text a b) (list c d e f g) = absurd (b d)
+judged-one (text a b) (accepted c) = absurd (b (c .texts))
+judged-one (space a b c) (reference d) = absurd (d a)
+judged-one (space a b c) (text d e) = absurd (e b)
+judged-one (space a b c) (space d e f) = refl
+judged-one (space a b c) (circle d e f g) = absurd (c f)
+judged-one (space a b c) (list d e f g h) = absurd (c f)
+judged-one (space a b c) (accepted d) = absurd (c (d .space))
+judged-one (circle a b c d) (reference e) = absurd (e a)
+judged-one (circle a b c d) (text e f) = absurd (f b)
+judged-one (circle a b c d) (space e f g) = absurd (g c)
+judged-one (circle a b c d) (circle e f g h) = refl
+judged-one (circle a b c d) (list e f g h i) = absurd (h d)
+judged-one (circle a b c d) (accepted e) = absurd (e .no-circle d)
+judged-one (list a b c d e) (reference f) = absurd (f a)
+judged-one (list a b c d e) (text f g) = absurd (g b)
+judged-one (list a b c d e) (space f g h) = absurd (h c)
+judged-one (list a b c d e) (circle f g h i) = absurd (d i)
+judged-one (list a b c d e) (list f g h i j) = refl
+judged-one (list a b c d e) (accepted f) = absurd (e (f .lists))
+judged-one (accepted a) (reference b) = absurd (b (a .references))
+judged-one (accepted a) (text b c) = absurd (c (a .texts))
+judged-one (accepted a) (space b c d) = absurd (d (a .space))
+judged-one (accepted a) (circle b c d e) = absurd (a .no-circle e)
+judged-one (accepted a) (list b c d e f) = absurd (f (a .lists))
+judged-one (accepted a) (accepted b) = refl
+
+-- a byte string means one thing
+pub means-one : {s : List ℕ} {a b : Answer} → Means s a → Means s b → a ≡ b
+means-one (ill n) (ill m) = refl
+means-one (ill n) (wrong k e z j) = absurd (n e)
+means-one (ill n) (right e j) = absurd (n e)
+means-one (wrong k e z j) (ill n) = absurd (n e)
+means-one (wrong k e z j) (wrong l f y i) = ap Refused (judged-one j i)
+means-one (wrong k e z j) (right f i) = absurd (z (judged-one j i))
+means-one (right e j) (ill n) = absurd (n e)
+means-one (right e j) (wrong k f z i) = absurd (z (judged-one i j))
+means-one (right e j) (right f i) = refl
+
+-- a file is accepted just where it is well formed: no refusal of 2 to 5, and all that 6 to 10 ask
+pub accepted-well : {s : List ℕ} {n : Counts} → Means s (Accepted n) → (formFault s ≡ 0) × Kept (tablesOf s)
+accepted-well (right e j) = (e, kept j refl)
+  where
+    kept : {t : Tables} {k : ℕ} → Judged t k → k ≡ 0 → Kept t
+    kept (reference a) z = absurd (omega arith)
+    kept (text a b) z = absurd (omega arith)
+    kept (space a b c) z = absurd (omega arith)
+    kept (circle a b c d) z = absurd (omega arith)
+    kept (list a b c d e) z = absurd (omega arith)
+    kept (accepted a) z = a
+
+pub well-accepted : {s : List ℕ} → formFault s ≡ 0 → Kept (tablesOf s) → Means s (Accepted (countsOf s))
+well-accepted e k = right e (accepted k)
+
+-- ---- round trips
+
+-- an accepted file is the encoding of its tables
+pub file-is : {s : List ℕ} {n : Counts} → Bytes s → Means s (Accepted n) → encode (tablesOf s) ≡ s
+file-is z m = encoded _ z (accepted-well m .0) .file
+
+-- no two files mean the same
+pub one-file : {s s′ : List ℕ} {n n′ : Counts} → Bytes s → Bytes s′ → Means s (Accepted n) → Means s′ (Accepted n′) → tablesOf s ≡ tablesOf s′ → s ≡ s′
+one-file z z′ m m′ e = sym (file-is z m) ∙ ap encode e ∙ file-is z′ m′
+
+-- what was written means the tables that were written
+pub written-means : {t : Tables} {lent : Type 0} {out out′ : List ℕ} {k : ℕ} → Sized t → Writes t lent out out′ (Written k)
+    → (k ≡ length (encode t)) × ((take k out′ ≡ encode t) × ((tablesOf (take k out′) ≡ t) × Means (take k out′) (Accepted (countsOf (take k out′)))))
+written-means {t} {out = out} {out′ = out′} z (written l e j h b) =
+    let r = reads-back t z e in
+    let g : take (length (encode t)) out′ ≡ encode t = rw b (take-at (encode t) (drop (length (encode t)) out) (length (encode t)) refl) in
+    (refl, (g, rw g (r .tables, right (r .fine) (rw (r .tables) j))))
+
+-- lent memory that holds the tables of an accepted file is lent at its counts, and those are the tables
+lent-is : (s : List ℕ) (ns : List (List ℕ)) (es xs : List ℕ) (ts : List (List ℕ)) (bs : List ℕ) → Encoded s → Holds (tablesOf s) (countsOf s) ns es xs ts bs
+    → lentTables (countsOf s) ns es xs ts bs ≡ tablesOf s
+unfolding tablesOf countsOf
+lent-is s ns es xs ts bs e h =
+    let q : lengths (take (countsOf s .texts) ts) ≡ countsOf s .bytes = ap lengths (h .text-rows) ∙ sym (e .sized .bytes) ∙ e .counted .bytes in
+    rw (q, h .node-rows, h .edge-list, h .choice-list, h .text-rows, h .byte-list)
+
+taken : {A : Type 0} (n : ℕ) (xs ys : List A) → take n xs ≡ ys → length ys ≡ n → n ≤ length xs
+taken n xs ys e l = let k : min n (length xs) ≡ n = sym (length-take n xs) ∙ ap length e ∙ l in omega arith
+
+pub lent-at : (s : List ℕ) (ns : List (List ℕ)) (es xs : List ℕ) (ts : List (List ℕ)) (bs : List ℕ) → Encoded s → Holds (tablesOf s) (countsOf s) ns es xs ts bs
+    → LentAt (countsOf s) ns es xs ts bs
+lent-at s ns es xs ts bs e h =
+    let c = e .counted in
+    let q : lengths (take (countsOf s .texts) ts) ≡ countsOf s .bytes = ap lengths (h .text-rows) ∙ sym (e .sized .bytes) ∙ c .bytes in
+    record {
+      nodes-lent = taken (countsOf s .nodes) ns (tablesOf s .nodes) (h .node-rows) (c .nodes);
+      edges-lent = taken (countsOf s .edges) es (tablesOf s .edges) (h .edge-list) (c .edges);
+      choices-lent = taken (countsOf s .choices) xs (tablesOf s .choices) (h .choice-list) (c .choices);
+      texts-lent = taken (countsOf s .texts) ts (tablesOf s .texts) (h .text-rows) (c .texts);
+      bytes-lent = rw q (taken (countsOf s .bytes) bs (tablesOf s .bytes) (h .byte-list) (c .bytes));
+    }
+
+-- the outcome for the tables of an accepted file: the same bytes, or 20 with their number
+again : {lent : Type 0} {out out′ : List ℕ} {r : Outcome} (s : List ℕ) (t : Tables) → lent → encode t ≡ s → tablesFault t ≡ 0 → Judged t 0 → length s ≤ length out → Writes t lent out out′ r
+    → (r ≡ Written (length s)) × (out′ ≡ s ++ drop (length s) out)
+again s t l f e j h (order n g) = absurd (n l)
+again s t l f e j h (not-formed m n g) = absurd (n e)
+again s t l f e j h (not-kept k m z n i g) = absurd (n (judged-one i j))
+again s t l f e j h (room m z i k g) = absurd (omega (arith, ap length f))
+again s t l f e j h (written m z i k g) = rw (← f) (refl, g)
+
+-- writing what was read gives the same bytes
+pub written-again : {n : Counts} {out out′ : List ℕ} {r : Outcome} (s : List ℕ) (ns : List (List ℕ)) (es xs : List ℕ) (ts : List (List ℕ)) (bs : List ℕ)
+    → Bytes s → Means s (Accepted n) → Holds (tablesOf s) (countsOf s) ns es xs ts bs → length s ≤ length out
+    → Writes (lentTables (countsOf s) ns es xs ts bs) (LentAt (countsOf s) ns es xs ts bs) out out′ r
+    → (r ≡ Written (length s)) × (out′ ≡ s ++ drop (length s) out)
+written-again {out = out} {out′ = out′} {r = r} s ns es xs ts bs z m h k w =
+    let a = accepted-well m in
+    let e = encoded s z (a .0) in
+    let w′ : Writes (tablesOf s) (LentAt (countsOf s) ns es xs ts bs) out out′ r = rw (lent-is s ns es xs ts bs e h) at w in
+    again s (tablesOf s) (lent-at s ns es xs ts bs e h) (e .file) (e .right) (accepted (a .1)) k w′

@@ -1,0 +1,3 @@
+// The prepared file, read into lent tables and written from them.
+pub mod read;
+pub mod write;
