@@ -1,0 +1,5 @@
+-- What the proofs of several functions use.
+mod Presenting
+mod Plans
+mod Passing
+mod Finishing

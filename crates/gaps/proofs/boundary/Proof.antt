@@ -1,0 +1,54 @@
+use native.Mathlib.Omega.{arith}
+use Rattle.gaps.proofs.Filling.{space-small, space-stop, space-go}
+use borrow.Author.Needs.{needs}
+use Rattle.gaps.proofs.boundary.Statement.{statement}
+use Rattle.gaps.proofs.boundary.Tie as tie
+
+text-requires : tie.Need-text-requires
+text-requires c κs = search needs
+
+enum-known-reason : tie.Need-enum-known-reason
+enum-known-reason c = search needs
+
+enum-known-cost : tie.Need-enum-known-cost
+enum-known-cost c = search needs
+
+add-last : tie.Need-add-last
+add-last c = let h = space-small (c .before .before .before .before .before .args .options .width) (c .before .before .before .before .before .args .column) _ _ (c .before .before .before .text .ensures) (c .before .cost .given .1) in omega (arith, h)
+
+scratch-candidate-requires : tie.Need-scratch-candidate-requires
+scratch-candidate-requires c κs = search needs
+
+space-or-newline-requires : tie.Need-space-or-newline-requires
+space-or-newline-requires c κs = search needs
+
+returns : tie.Need-returns
+returns c = (λ P ts rs ps es e. space-stop (c .before .before .before .before .before .args .options .width) (c .before .before .before .before .before .args .options .«newline_cost») (c .before .before .before .before .before .args .options .policy) (c .before .before .before .before .before .args .column) (c .before .before .before .before .before .args .indent) P (c .before .before .before .before .before .args .st) _ _ _ _ (c .before .before .before .text .ensures) (c .before .reason .given .1), record { by = tt })
+
+same-length : tie.Need-same-length
+same-length c = search needs
+
+same-length-2 : tie.Need-same-length-2
+same-length-2 c = search needs
+
+same-length-3 : tie.Need-same-length-3
+same-length-3 c = search needs
+
+returns-2 : tie.Need-returns-2
+returns-2 c = (λ P ts rs ps es e. space-go (c .before .before .before .before .before .before .before .before .before .before .before .before .before .before .args .options .width) (c .before .before .before .before .before .before .before .before .before .before .before .before .before .before .args .options .«newline_cost») (c .before .before .before .before .before .before .before .before .before .before .before .before .before .before .args .options .policy) (c .before .before .before .before .before .before .before .before .before .before .before .before .before .before .args .column) (c .before .before .before .before .before .before .before .before .before .before .before .before .before .before .args .indent) (c .before .before .before .before .before .before .before .before .before .before .before .before .before .before .args .space .0) P _ _ _ _ (c .before .before .before .before .before .before .before .before .before .before .before .before .text .ensures) (c .before .before .before .before .before .before .before .before .before .before .cost .given .1) (c .before .before .before .before .before .before .before .before .scratch-candidate .ensures) e (c .before .before .before .before .space-or-newline .ensures .0 P ts rs ps es), c .before .before .before .before .space-or-newline .ensures .1)
+
+pub boundary-spec : {M : Type 1} → statement M
+boundary-spec =
+    tie.close
+    (tie.spec
+    text-requires
+    enum-known-reason
+    enum-known-cost
+    add-last
+    scratch-candidate-requires
+    space-or-newline-requires
+    returns
+    same-length
+    same-length-2
+    same-length-3
+    returns-2)

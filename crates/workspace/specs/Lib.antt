@@ -1,0 +1,10 @@
+pub mod Meets
+pub mod Rows
+pub mod Reading
+pub mod Frames
+pub mod Runs
+pub mod Stacks
+pub mod Words
+pub mod Entering
+pub mod Work
+pub mod Costs

@@ -1,0 +1,481 @@
+// The working memory of the exact solver (laidout's RenderWorkspace): stacks of rows in lent slices, and registers that say how far each is filled.
+// An operation takes only the slices that it touches; its contract holds for whatever the others are.
+ghost use mathlib.Core.Path.{_≡_};
+ghost use mathlib.Core.List.{List, []};
+ghost use Prim.Native.Nat.{ℕ, _+_, _≤_, _<_, _%_, _^_};
+ghost use lib.ListN.{length, getD};
+ghost use Rattle.machine.specs.Events.{ret, Hit, Miss};
+ghost use Rattle.layout.specs.Rules.{Rules};
+ghost use Rattle.machine.specs.Model.{Prepared, range, scratch, no-candidate, got};
+ghost use Rattle.machine.specs.Solver.{push-exact-task, push-exact-result, pop-exact-result, push-pending, complete-node, push-child};
+ghost use Rattle.machine.specs.Solver.{memo-insert as inserting};
+ghost use Rattle.frontier.specs.Candidates.{carried};
+ghost use Rattle.cost.specs.Value.{value};
+ghost use Rattle.workspace.specs.Meets.{Meets, Sound, counts, ticked};
+ghost use Rattle.workspace.specs.Rows.{Row, abs, task-of, meant, plan-of, scratch-of, survivor, candidate, candidate-of, row-list};
+ghost use Rattle.workspace.specs.Frames.{Keeps, SameMemo, Popped, Memory, MemoryAt};
+use cost::ConsumerCost;
+use cost::Reason;
+use frontier::Builder;
+use frontier::ScratchCandidate;
+use memo::CandidateRange;
+use memo::MemoInsertion;
+use memo::MemoKey;
+use plan::PendingPlan;
+use plan::PlanId;
+use stats::SolveCounter;
+use stats::SolveStats;
+use tables::AnnotationId;
+
+// Sizes in the order of 13 to 21, and the two limits (document 01, "Calls").
+pub struct Bounds {
+    pub stack: u32,
+    pub memo: u32,
+    pub kept: u32,
+    pub frontier: u32,
+    pub plans: u32,
+    pub visit: u32,
+    pub depth: u32,
+    pub output: u32,
+    pub spans: u32,
+    pub work_limit: u64,
+    pub visit_limit: u64,
+}
+
+// The settings (document 01, "Calls").
+pub struct RenderOptions {
+    pub width: u32,
+    pub newline_cost: u32,
+    pub policy: u32,
+}
+
+// How far each store is filled, the range that was popped or finished last, the frontier that is being built, and the counts.
+pub struct Registers {
+    pub tasks: usize,
+    pub results: usize,
+    pub pending: usize,
+    pub memo: usize,
+    pub kept: usize,
+    pub plans: usize,
+    pub start: u32,
+    pub len: u32,
+    pub builder: Builder,
+    pub stats: SolveStats,
+}
+
+// Why the solver stops.
+pub enum Why {
+    Domain(Reason),
+    Work,
+    Stack,
+    Memo,
+    Kept,
+    Frontier,
+    Plans,
+}
+
+// The solver goes on; or it stops, with the size that is needed (0 where no size is too small).
+pub enum Answer {
+    Go(Registers),
+    Stop(Why, u64, Registers),
+}
+
+// A sequence's edges, indent and kind are those of its key's node, and are read again there.
+pub enum ExactTask {
+    Eval(MemoKey),
+    CompleteAlias(MemoKey),
+    CompleteUnion(MemoKey),
+    CompleteChoiceSet {
+        key: MemoKey,
+        result_start: u32,
+    },
+    CompleteAnnotate {
+        key: MemoKey,
+        annotation: AnnotationId,
+    },
+    CompletePenalty {
+        key: MemoKey,
+        amount: u32,
+    },
+    ContinueSequence {
+        key: MemoKey,
+        child_index: u32,
+    },
+    CompleteSequenceRight {
+        key: MemoKey,
+        child_index: u32,
+        start: u32,
+        len: u32,
+        left_offset: u32,
+        pending_start: u32,
+    },
+}
+
+// A kept candidate.
+pub struct Candidate {
+    pub cost: ConsumerCost,
+    pub last: u32,
+    pub precedence: u64,
+    pub plan: PlanId,
+}
+
+// ---- rows
+
+// Kind, key, and what the task has besides, each in its place.
+pub fn task_row(task: ExactTask) -> [u32; 9]
+    ensures { λ r. ⌜ task-of r ≡ meant task ⌝ }
+{
+    match task {
+        ExactTask::Eval(q) => [0, q.node, q.column, q.indent, 0, 0, 0, 0, 0],
+        ExactTask::CompleteAlias(q) => [1, q.node, q.column, q.indent, 0, 0, 0, 0, 0],
+        ExactTask::CompleteUnion(q) => [2, q.node, q.column, q.indent, 0, 0, 0, 0, 0],
+        ExactTask::CompleteChoiceSet {
+            key: q,
+            result_start: x,
+        } => [3, q.node, q.column, q.indent, x, 0, 0, 0, 0],
+        ExactTask::CompleteAnnotate {
+            key: q,
+            annotation: a,
+        } => [4, q.node, q.column, q.indent, a.0, 0, 0, 0, 0],
+        ExactTask::CompletePenalty { key: q, amount: x } => [
+            5,
+            q.node,
+            q.column,
+            q.indent,
+            x,
+            0,
+            0,
+            0,
+            0,
+        ],
+        ExactTask::ContinueSequence {
+            key: q,
+            child_index: x,
+        } => [6, q.node, q.column, q.indent, x, 0, 0, 0, 0],
+        ExactTask::CompleteSequenceRight {
+            key: q,
+            child_index: x,
+            start: s,
+            len: l,
+            left_offset: o,
+            pending_start: p,
+        } => { [7, q.node, q.column, q.indent, x, s, l, o, p] }
+    }
+}
+
+// The task that a row holds.
+pub fn row_task(row: [u32; 9]) -> ExactTask
+    ensures { λ r. ⌜ meant r ≡ task-of row ⌝ }
+{
+    let kind = row[0];
+    let q = MemoKey {
+        node: row[1],
+        column: row[2],
+        indent: row[3],
+    };
+    let x = row[4];
+    match kind {
+        0 => ExactTask::Eval(q),
+        1 => ExactTask::CompleteAlias(q),
+        2 => ExactTask::CompleteUnion(q),
+        3 => ExactTask::CompleteChoiceSet {
+            key: q,
+            result_start: x,
+        },
+        4 => ExactTask::CompleteAnnotate {
+            key: q,
+            annotation: AnnotationId(x),
+        },
+        5 => ExactTask::CompletePenalty { key: q, amount: x },
+        6 => ExactTask::ContinueSequence {
+            key: q,
+            child_index: x,
+        },
+        _ => ExactTask::CompleteSequenceRight {
+            key: q,
+            child_index: x,
+            start: row[5],
+            len: row[6],
+            left_offset: row[7],
+            pending_start: row[8],
+        },
+    }
+}
+
+// The lower half of a word.
+fn narrow(word: u64) -> u32
+    ensures { λ r. ⌜ r ≡ word % 2 ^ 32 ⌝ }
+{
+    (word % 4294967296) as u32
+}
+
+// Kept candidate `index` of `count`. No run asks for one past the end; the answer there is the definition's.
+pub fn candidate_at(kept: &[[u64; 6]], count: usize, index: usize) -> Candidate
+    requires { ⌜ count ≤ length (now kept) ⌝ }
+    ensures { λ r. ⌜ candidate r ≡ getD (row-list candidate-of (now (kept .entry)) count) index no-candidate ⌝ }
+{
+    if count <= index {
+        return Candidate {
+            cost: ConsumerCost::ZERO,
+            last: 0,
+            precedence: 0,
+            plan: PlanId(0),
+        };
+    }
+    let row = kept[index];
+    let last = narrow(row[3]);
+    let number = narrow(row[5]);
+    Candidate {
+        cost: ConsumerCost {
+            overflow_high: row[0],
+            overflow_low: row[1],
+            burden: row[2],
+        },
+        last: last,
+        precedence: row[4],
+        plan: PlanId(number),
+    }
+}
+
+// ---- stacks
+
+pub fn push_exact_task(b: Bounds, st: Registers, tasks: &mut [[u32; 9]], task: ExactTask) -> Answer
+    requires { ⌜ (b .stack ≤ length (now tasks)) × Sound b st ⌝ }
+    ensures meets { λ a. ⌜ ((rs ps es ks : List Row) (fs : List ℕ) (ns : List Row) → Meets b (counts st) (push-exact-task (meant task) (abs st (now (tasks .entry)) rs ps es ks fs ns)) a (λ s. abs s (now (tasks .exit)) rs ps es ks fs ns)) ⌝ }
+    ensures keeps { λ a. ⌜ Keeps st a ⌝ }
+{
+    let t = st.tasks;
+    let size = b.stack as usize;
+    if size <= t {
+        let needed = (t + 1) as u64;
+        return Answer::Stop(Why::Stack, needed, st);
+    }
+    let row = task_row(task);
+    tasks[t] = row;
+    let mut s = st;
+    s.tasks = t + 1;
+    Answer::Go(s)
+}
+
+pub fn push_exact_result(
+    b: Bounds,
+    st: Registers,
+    results: &mut [[u32; 2]],
+    start: u32,
+    len: u32,
+) -> Answer
+    requires { ⌜ (b .stack ≤ length (now results)) × Sound b st ⌝ }
+    ensures meets { λ a. ⌜ ((ts ps es ks : List Row) (fs : List ℕ) (ns : List Row) → Meets b (counts st) (push-exact-result (range start len) (abs st ts (now (results .entry)) ps es ks fs ns)) a (λ s. abs s ts (now (results .exit)) ps es ks fs ns)) ⌝ }
+    ensures keeps { λ a. ⌜ SameMemo st a ⌝ }
+{
+    let r = st.results;
+    let size = b.stack as usize;
+    if size <= r {
+        let needed = (r + 1) as u64;
+        return Answer::Stop(Why::Stack, needed, st);
+    }
+    results[r] = [start, len];
+    let mut s = st;
+    s.results = r + 1;
+    Answer::Go(s)
+}
+
+// The result on top, as the range of the registers.
+pub fn pop_exact_result(st: Registers, results: &[[u32; 2]]) -> Registers
+    requires { ⌜ (1 ≤ st .results) × (st .results ≤ length (now results)) ⌝ }
+    ensures is { λ s. ⌜ ((ts ps es ks : List Row) (fs : List ℕ) (ns : List Row) → pop-exact-result (abs st ts (now (results .entry)) ps es ks fs ns) ≡ ret (got (range (s .start) (s .len)) (abs s ts (now (results .entry)) ps es ks fs ns))) ⌝ }
+    ensures popped { λ s. ⌜ Popped st s ⌝ }
+{
+    let top = st.results - 1;
+    let row = results[top];
+    let mut s = st;
+    s.results = top;
+    s.start = row[0];
+    s.len = row[1];
+    s
+}
+
+// A candidate with its pending plan in words.
+pub fn scratch_candidate(cost: ConsumerCost, last: u32, plan: PendingPlan) -> ScratchCandidate
+    ensures { λ r. ⌜ survivor (carried r) ≡ scratch (value cost) last (plan-of plan) ⌝ }
+{
+    let words = plan::pending_record(plan);
+    let kind = words.kind as u64;
+    let first = words.first as u64;
+    let second = words.second as u64;
+    ScratchCandidate {
+        cost: cost,
+        last: last,
+        precedence: 0,
+        kind: kind,
+        first: first,
+        second: second,
+    }
+}
+
+pub fn push_pending(
+    b: Bounds,
+    st: Registers,
+    pending: &mut [[u64; 7]],
+    cost: ConsumerCost,
+    last: u32,
+    plan: PendingPlan,
+) -> Answer
+    requires { ⌜ (b .stack ≤ length (now pending)) × Sound b st ⌝ }
+    ensures meets { λ a. ⌜ ((ts rs es ks : List Row) (fs : List ℕ) (ns : List Row) → Meets b (counts st) (push-pending (scratch (value cost) last (plan-of plan)) (abs st ts rs (now (pending .entry)) es ks fs ns)) a (λ s. abs s ts rs (now (pending .exit)) es ks fs ns)) ⌝ }
+    ensures keeps { λ a. ⌜ Keeps st a ⌝ }
+{
+    let p = st.pending;
+    let size = b.stack as usize;
+    if size <= p {
+        let needed = (p + 1) as u64;
+        return Answer::Stop(Why::Stack, needed, st);
+    }
+    let c = scratch_candidate(cost, last, plan);
+    let column = last as u64;
+    pending[p] = [
+        cost.overflow_high,
+        cost.overflow_low,
+        cost.burden,
+        column,
+        c.kind,
+        c.first,
+        c.second,
+    ];
+    let mut s = st;
+    s.pending = p + 1;
+    Answer::Go(s)
+}
+
+// Pending candidate `index`.
+pub fn pending_at(pending: &[[u64; 7]], index: usize) -> ScratchCandidate
+    requires { ⌜ index < length (now pending) ⌝ }
+    ensures { λ r. ⌜ survivor (carried r) ≡ scratch-of (getD (now (pending .entry)) index []) ⌝ }
+{
+    let row = pending[index];
+    let last = narrow(row[3]);
+    ScratchCandidate {
+        cost: ConsumerCost {
+            overflow_high: row[0],
+            overflow_low: row[1],
+            burden: row[2],
+        },
+        last: last,
+        precedence: 0,
+        kind: row[4],
+        first: row[5],
+        second: row[6],
+    }
+}
+
+// ---- work: one unit, tested first, and the count that moves with it
+
+pub fn work_hit(b: Bounds, st: Registers) -> Answer
+    requires { ⌜ Sound b st ⌝ }
+    ensures meets { λ a. ⌜ ((ts rs ps es ks : List Row) (fs : List ℕ) (ns : List Row) → Meets b (counts st) (ticked Hit (abs st ts rs ps es ks fs ns)) a (λ s. abs s ts rs ps es ks fs ns)) ⌝ }
+    ensures keeps { λ a. ⌜ Keeps st a ⌝ }
+{
+    let before = st.stats;
+    if b.work_limit <= before.work_items {
+        return Answer::Stop(Why::Work, 0, st);
+    }
+    let worked = stats::with_increment(before, SolveCounter::WorkItems);
+    let counted = stats::with_increment(worked, SolveCounter::MemoHits);
+    let mut s = st;
+    s.stats = counted;
+    Answer::Go(s)
+}
+
+pub fn work_miss(b: Bounds, st: Registers) -> Answer
+    requires { ⌜ Sound b st ⌝ }
+    ensures meets { λ a. ⌜ ((ts rs ps es ks : List Row) (fs : List ℕ) (ns : List Row) → Meets b (counts st) (ticked Miss (abs st ts rs ps es ks fs ns)) a (λ s. abs s ts rs ps es ks fs ns)) ⌝ }
+    ensures keeps { λ a. ⌜ Keeps st a ⌝ }
+{
+    let before = st.stats;
+    if b.work_limit <= before.work_items {
+        return Answer::Stop(Why::Work, 0, st);
+    }
+    let worked = stats::with_increment(before, SolveCounter::WorkItems);
+    let counted = stats::with_increment(worked, SolveCounter::MemoMisses);
+    let mut s = st;
+    s.stats = counted;
+    Answer::Go(s)
+}
+
+// ---- the memo
+
+pub fn memo_insert(
+    b: Bounds,
+    st: Registers,
+    slots: &mut [u64],
+    entries: &mut [[u64; 6]],
+    key: MemoKey,
+    start: u32,
+    len: u32,
+) -> Answer
+    requires { ⌜ Memory b (st .memo) (now slots) (now entries) × Sound b st ⌝ }
+    ensures meets { λ a. ⌜ ((ts rs ps ks : List Row) (fs : List ℕ) (ns : List Row) → Meets b (counts st) (inserting key (range start len) (abs st ts rs ps (now (entries .entry)) ks fs ns)) a (λ s. abs s ts rs ps (now (entries .exit)) ks fs ns)) ⌝ }
+    ensures memory { λ a. ⌜ MemoryAt b (now (slots .exit)) (now (entries .exit)) a ⌝ }
+{
+    let count = st.memo;
+    let size = b.memo as usize;
+    let first = start as u64;
+    let number = len as u64;
+    let range = CandidateRange {
+        start: first,
+        len: number,
+    };
+    match memo::memo_insert(slots, entries, count, size, key, range) {
+        MemoInsertion::Full { needed } => Answer::Stop(Why::Memo, needed, st),
+        MemoInsertion::Inserted(n) => {
+            let entered = n as u64;
+            let mut counted = st.stats;
+            counted.memo_entries = entered;
+            let mut s = st;
+            s.memo = n;
+            s.stats = counted;
+            Answer::Go(s)
+        }
+    }
+}
+
+// A node's range goes into the memo, and onto the results.
+pub fn complete_node(
+    b: Bounds,
+    st: Registers,
+    slots: &mut [u64],
+    entries: &mut [[u64; 6]],
+    results: &mut [[u32; 2]],
+    key: MemoKey,
+    start: u32,
+    len: u32,
+) -> Answer
+    requires { ⌜ Memory b (st .memo) (now slots) (now entries) × ((b .stack ≤ length (now results)) × Sound b st) ⌝ }
+    ensures meets { λ a. ⌜ ((ts ps ks : List Row) (fs : List ℕ) (ns : List Row) → Meets b (counts st) (complete-node key (range start len) (abs st ts (now (results .entry)) ps (now (entries .entry)) ks fs ns)) a (λ s. abs s ts (now (results .exit)) ps (now (entries .exit)) ks fs ns)) ⌝ }
+    ensures memory { λ a. ⌜ MemoryAt b (now (slots .exit)) (now (entries .exit)) a ⌝ }
+{
+    let a = memo_insert(b, st, slots, entries, key, start, len);
+    let Answer::Go(s) = a else {
+        return a;
+    };
+    push_exact_result(b, s, results, start, len)
+}
+
+// The completing task, and then a child.
+pub fn push_child(
+    b: Bounds,
+    st: Registers,
+    tasks: &mut [[u32; 9]],
+    task: ExactTask,
+    child: MemoKey,
+) -> Answer
+    requires { ⌜ (b .stack ≤ length (now tasks)) × Sound b st ⌝ }
+    ensures meets { λ a. ⌜ ((R : Rules) (P : Prepared) (rs ps es ks : List Row) (fs : List ℕ) (ns : List Row) → Meets b (counts st) (push-child R P (meant task) child (abs st (now (tasks .entry)) rs ps es ks fs ns)) a (λ s. abs s (now (tasks .exit)) rs ps es ks fs ns)) ⌝ }
+    ensures keeps { λ a. ⌜ Keeps st a ⌝ }
+{
+    let a = push_exact_task(b, st, tasks, task);
+    let Answer::Go(s) = a else {
+        return a;
+    };
+    push_exact_task(b, s, tasks, ExactTask::Eval(child))
+}
