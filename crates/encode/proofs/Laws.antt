@@ -1,15 +1,17 @@
 -- Laws for this crate's functions.
-use mathlib.Core.Path.{_≡_, refl}
+use mathlib.Core.Path.{_≡_, refl, ap, _∙_}
 use mathlib.Core.Bool.{true, false}
+use mathlib.Core.Logic.{by-cases}
 use mathlib.Core.List.{List, []}
 use Prim.Native.Nat.{ℕ, zero, suc, _+_, _*_, _≤_, _<_}
 use native.Mathlib.Omega.{arith}
+use native.Mathlib.Decide.{ℕ-discrete}
 use native.Mathlib.Numerals.{add-one}
 use lib.ListN.{length, getD, drop, drop-of-length-le}
 use lib.Seq.{drop-cons}
 use borrow.Author.Tests.{eq-eqb, ne-eqb, le-leb, lt-leb}
 use Rattle.tables.specs.Tables.{first, second, choice-start, choice-length, skipped, byte-length, byte-start}
-use Rattle.encode.specs.Encode.{present, marked, flag, mapOf, nodeMap}
+use Rattle.encode.specs.Encode.{present, marked, flag, mapOf, nodeMap, Wide}
 use Rattle.encode.specs.Faults.{orElse, nodeRight, nodesFault, textsFault}
 
 -- ---- map bytes
@@ -20,6 +22,14 @@ pub node-map-is : (row : List ℕ) (a b c d e f : ℕ)
     → a + b * 2 + c * 4 + d * 8 + e * 16 + f * 32 ≡ nodeMap row
 unfolding nodeMap mapOf
 node-map-is row a b c d e f ea eb ec ed ee ef = rw (ea, eb, ec, ed, ee, ef) (omega arith)
+
+-- ---- widths
+
+pub wide-on : (w : ℕ) (rows : List (List ℕ)) (i : ℕ) → Wide w rows i → length (getD rows i []) ≡ w → Wide w rows (i + 1)
+wide-on w rows i h e k l = by-cases (ℕ-discrete k i) (λ q. ap (λ (x : ℕ). length (getD rows x [])) q ∙ e) (λ n. h k (omega arith))
+
+pub wide-all : (w : ℕ) (rows : List (List ℕ)) (i : ℕ) → Wide w rows i → length rows ≤ i → Wide w rows (length rows)
+wide-all w rows i h l k q = h k (omega arith)
 
 -- ---- faults, in order
 

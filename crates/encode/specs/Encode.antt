@@ -96,8 +96,12 @@ unfoldable pub lengths : List (List ℕ) → ℕ
 lengths [] = 0
 lengths (row ∷ rows) = byte-length row + lengths rows
 
+-- the first n rows have w words each
+abbrev pub Wide : ℕ → List (List ℕ) → ℕ → Type 0
+Wide w rows n = (i : ℕ) → i < n → length (getD rows i []) ≡ w
+
 -- tables as they stand in lent memory: rows of eight and of three words, and as many bytes as the texts have together
 pub record Sized (t : Tables) : Type 0 where
-  pub node-rows : (i : ℕ) → i < length (t .nodes) → length (getD (t .nodes) i []) ≡ 8
-  pub text-rows : (i : ℕ) → i < length (t .texts) → length (getD (t .texts) i []) ≡ 3
+  pub node-rows : Wide 8 (t .nodes) (length (t .nodes))
+  pub text-rows : Wide 3 (t .texts) (length (t .texts))
   pub bytes : length (t .bytes) ≡ lengths (t .texts)

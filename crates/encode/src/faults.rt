@@ -1,7 +1,9 @@
 // The refusals 3 and 4 of tables, in file order.
 ghost use mathlib.Core.Path.{_≡_};
 ghost use Prim.Native.Nat.{_≤_, _<_};
-ghost use Rattle.encode.specs.Encode.{flag, nodeMap, textMap};
+ghost use lib.ListN.{length};
+ghost use Rattle.tables.specs.Tables.{byte-start};
+ghost use Rattle.encode.specs.Encode.{flag, nodeMap, textMap, Wide};
 ghost use Rattle.encode.specs.Faults.{nodeRight, nodesFault, textsFault, orElse, countFault, headerFault};
 use form::kinds::both;
 use form::kinds::map_right;
@@ -36,8 +38,9 @@ pub fn node_map(row: [u32; 8]) -> u32
     a + b * 2 + c * 4 + d * 8 + e * 16 + f * 32
 }
 
+// A row has its width by its type, which a caller learns here.
 pub fn node_right(row: [u32; 8]) -> bool
-    ensures { λ r. ⌜ r ≡ nodeRight row ⌝ }
+    ensures { λ r. ⌜ (r ≡ nodeRight row) × (length row ≡ 8) ⌝ }
 {
     let m = node_map(row);
     let flat = both(row[3] <= 1, only(0 < row[4], row[3] == 1));
@@ -47,6 +50,7 @@ pub fn node_right(row: [u32; 8]) -> bool
 
 pub fn nodes_fault(nodes: &[[u32; 8]]) -> u32
     ensures { λ r. ⌜ r ≡ nodesFault (now (nodes .entry)) ⌝ }
+    ensures { λ r. ⌜ (r ≡ 0 → Wide 8 (now (nodes .entry)) (length (now (nodes .entry)))) ⌝ }
 {
     let mut i: usize = 0;
     while i < nodes.len() {
@@ -59,14 +63,22 @@ pub fn nodes_fault(nodes: &[[u32; 8]]) -> u32
     0
 }
 
+// Where a text's bytes start.
+pub fn text_start(row: [u32; 3]) -> usize
+    ensures { λ r. ⌜ (r ≡ byte-start row) × (length row ≡ 3) ⌝ }
+{
+    long(row[2])
+}
+
 pub fn texts_fault(texts: &[[u32; 3]]) -> u32
     ensures { λ r. ⌜ r ≡ textsFault 0 (now (texts .entry)) ⌝ }
+    ensures { λ r. ⌜ (r ≡ 0 → Wide 3 (now (texts .entry)) (length (now (texts .entry)))) ⌝ }
 {
     let mut total: usize = 0;
     let mut i: usize = 0;
     while i < texts.len() {
         let row = texts[i];
-        let start = long(row[2]);
+        let start = text_start(row);
         if start != total {
             return 3;
         }

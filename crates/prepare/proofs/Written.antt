@@ -7,8 +7,9 @@ use lib.ListN.{length, take, drop, getD}
 use lib.Seq.{sets, sets-eq, length-take-le}
 use Rattle.tables.specs.Tables.{Tables}
 use Rattle.form.specs.declared.fill.Counts.{Counts}
-use Rattle.encode.specs.Encode.{encode, lengths}
+use Rattle.encode.specs.Encode.{encode, lengths, Sized}
 use Rattle.encode.specs.Faults.{orElse, headerFault, nodesFault, textsFault, tablesFault}
+use Rattle.encode.specs.NodeTrip.{or-zero}
 use Rattle.encode.specs.Trips.{Right, tables-right, texts-inside}
 use Rattle.put.specs.Put.{Put, tablesIn}
 use Rattle.rules.specs.Judged.{Formed, Judged}
@@ -23,6 +24,10 @@ pub fault-is : (nodes : List (List ℕ)) (edges choices : List ℕ) (texts : Lis
 unfolding tablesFault
 fault-is nodes edges choices texts bytes n e x a c root space h m t q r ln le lc lx eh em et eq er =
     rw (er, eq, em, et, eh, ln, le, lc, lx)
+
+-- no refusal: none of the nodes, and none of the texts
+pub faults-none : (h m t q r : ℕ) → q ≡ orElse m t → r ≡ orElse h q → r ≡ 0 → (m ≡ 0) × (t ≡ 0)
+faults-none h m t q r eq er z = or-zero m t (sym eq ∙ or-zero h q (sym er ∙ z) .1)
 
 -- right tables are fit for the rules
 pub formed-by : (t : Tables) → length (t .bytes) ≡ lengths (t .texts) → tablesFault t ≡ 0 → Formed t
@@ -42,14 +47,14 @@ module _ (t : Tables) (lent : Type 0) (l : lent) where
       let g : size ≡ length (encode t) = p .next ∙ omega arith in
       rw g (room l e j (omega arith) refl)
 
-  pub answer-written : (o o′ b b′ : List ℕ) (size done : ℕ) → tablesFault t ≡ 0 → Judged t 0 → Put b b′ 0 size (encode t) → size ≤ length o → Put o o′ 0 done (encode t)
+  pub answer-written : (o o′ b b′ : List ℕ) (size done : ℕ) → Sized t → tablesFault t ≡ 0 → Judged t 0 → Put b b′ 0 size (encode t) → size ≤ length o → Put o o′ 0 done (encode t)
       → Writes t lent o o′ (Written done)
-  answer-written o o′ b b′ size done e j p h q =
+  answer-written o o′ b b′ size done s e j p h q =
       let g : size ≡ length (encode t) = p .next ∙ omega arith in
       let d : done ≡ length (encode t) = q .next ∙ omega arith in
       let k : 0 + length (encode t) ≤ length o = omega arith in
       let z : 0 + length (encode t) ≡ length (encode t) = omega arith in
-      rw d (written l e j (omega arith) (q .bytes ∙ sets-eq (encode t) o 0 k ∙ ap (λ (x : ℕ). encode t ++ drop x o) z))
+      rw d (written l s e j (omega arith) (q .bytes ∙ sets-eq (encode t) o 0 k ∙ ap (λ (x : ℕ). encode t ++ drop x o) z))
 
 -- the same outcome under the same condition, said otherwise
 pub writes-map : {t : Tables} {lent lent′ : Type 0} {o o′ : List ℕ} {r : Outcome} → (lent → lent′) → (lent′ → lent) → Writes t lent o o′ r → Writes t lent′ o o′ r
@@ -57,7 +62,7 @@ writes-map f g (order n e) = order (λ l. n (g l)) e
 writes-map f g (ill l n e) = ill (f l) n e
 writes-map f g (wrong k l z n j e) = wrong k (f l) z n j e
 writes-map f g (room l z j h e) = room (f l) z j h e
-writes-map f g (written l z j h e) = written (f l) z j h e
+writes-map f g (written l s z j h e) = written (f l) s z j h e
 
 pub cut-is : (ns : List (List ℕ)) (es xs : List ℕ) (ts : List (List ℕ)) (bs : List ℕ) (a r w total : ℕ) (o o′ : List ℕ) (q : Outcome)
     → total ≡ lengths ts → total ≤ length bs

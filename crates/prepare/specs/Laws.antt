@@ -9,7 +9,7 @@ use lib.Seq.{take-at}
 use Rattle.tables.specs.Tables.{Tables}
 use Rattle.form.specs.declared.fill.Counts.{Counts}
 use Rattle.form.specs.Form.{formFault, tablesOf, countsOf, Holds}
-use Rattle.encode.specs.Encode.{encode, lengths, Sized}
+use Rattle.encode.specs.Encode.{encode, lengths}
 use Rattle.encode.specs.Faults.{tablesFault}
 use Rattle.encode.specs.Fields.{Bytes}
 use Rattle.encode.specs.Trips.{Encoded, encoded, ReadsBack, reads-back}
@@ -101,9 +101,9 @@ pub one-file : {s s′ : List ℕ} {n n′ : Counts} → Bytes s → Bytes s′ 
 one-file z z′ m m′ e = sym (file-is z m) ∙ ap encode e ∙ file-is z′ m′
 
 -- what was written means the tables that were written
-pub written-means : {t : Tables} {lent : Type 0} {out out′ : List ℕ} {k : ℕ} → Sized t → Writes t lent out out′ (Written k)
+pub written-means : {t : Tables} {lent : Type 0} {out out′ : List ℕ} {k : ℕ} → Writes t lent out out′ (Written k)
     → (k ≡ length (encode t)) × ((take k out′ ≡ encode t) × ((tablesOf (take k out′) ≡ t) × Means (take k out′) (Accepted (countsOf (take k out′)))))
-written-means {t} {out = out} {out′ = out′} z (written l e j h b) =
+written-means {t} {out = out} {out′ = out′} (written l z e j h b) =
     let r = reads-back t z e in
     let g : take (length (encode t)) out′ ≡ encode t = rw b (take-at (encode t) (drop (length (encode t)) out) (length (encode t)) refl) in
     (refl, (g, rw g (r .tables, right (r .fine) (rw (r .tables) j))))
@@ -139,7 +139,7 @@ again s t l f e j h (order n g) = absurd (n l)
 again s t l f e j h (not-formed m n g) = absurd (n e)
 again s t l f e j h (not-kept k m z n i g) = absurd (n (judged-one i j))
 again s t l f e j h (room m z i k g) = absurd (omega (arith, ap length f))
-again s t l f e j h (written m z i k g) = rw (← f) (refl, g)
+again s t l f e j h (written m y z i k g) = rw (← f) (refl, g)
 
 -- writing what was read gives the same bytes
 pub written-again : {n : Counts} {out out′ : List ℕ} {r : Outcome} (s : List ℕ) (ns : List (List ℕ)) (es xs : List ℕ) (ts : List (List ℕ)) (bs : List ℕ)

@@ -5,7 +5,7 @@ use mathlib.Core.List.{List, _++_}
 use lib.ListN.{length, take, drop}
 use Rattle.tables.specs.Tables.{Tables}
 use Rattle.form.specs.declared.fill.Counts.{Counts}
-use Rattle.encode.specs.Encode.{encode, lengths}
+use Rattle.encode.specs.Encode.{encode, lengths, Sized}
 use Rattle.encode.specs.Faults.{tablesFault}
 use Rattle.put.specs.Put.{tablesIn}
 use Rattle.rules.specs.Judged.{Judged}
@@ -36,7 +36,7 @@ pub record Cut (n : Counts) (nodes : List (List ℕ)) (edges choices : List ℕ)
 
 -- the outcome for tables t, and the lent bytes before and after: 1 where a table is lent shorter than its count; then 3 and 4, then 6 to 10,
 -- as the reader refuses their file; then 20 with the file's length where the lent bytes are too few. A refusal alters no byte.
--- Otherwise the bytes begin with the file of t and are unaltered past it
+-- Otherwise t is as tables stand in memory, and the bytes begin with the file of t and are unaltered past it
 pub data Writes (t : Tables) (lent : Type 0) (out out′ : List ℕ) : Outcome → Type 0 where
   order : (lent → ⊥) → out′ ≡ out → Writes t lent out out′ (Refused 1 0)
   ill : lent → (tablesFault t ≡ 0 → ⊥) → out′ ≡ out → Writes t lent out out′ (Refused (tablesFault t) 0)
@@ -50,6 +50,7 @@ pub data Writes (t : Tables) (lent : Type 0) (out out′ : List ℕ) : Outcome �
       → Writes t lent out out′ (Refused 20 (length (encode t)))
   written :
       lent
+      → Sized t
       → tablesFault t ≡ 0
       → Judged t 0
       → length (encode t) ≤ length out

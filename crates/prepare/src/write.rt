@@ -3,7 +3,7 @@ ghost use mathlib.Core.Path.{_≡_};
 ghost use Prim.Native.Nat.{ℕ, _≤_, _<_};
 ghost use mathlib.Core.List.{List};
 ghost use lib.ListN.{length, take};
-ghost use Rattle.encode.specs.Encode.{lengths};
+ghost use Rattle.encode.specs.Encode.{lengths, Wide, Sized};
 ghost use Rattle.encode.specs.Faults.{tablesFault};
 ghost use Rattle.put.specs.Put.{tablesIn};
 ghost use Rattle.rules.specs.Judged.{Judged};
@@ -28,6 +28,7 @@ pub enum Outcome {
 pub fn tables_fault(n: Counts, nodes: &[[u32; 8]], texts: &[[u32; 3]]) -> u32
     requires { ⌜ (length (now nodes) ≡ n .nodes) × (length (now texts) ≡ n .texts) ⌝ }
     ensures { λ r. ⌜ ((edges choices bytes : List ℕ) (root space : ℕ) → length edges ≡ n .edges → length choices ≡ n .choices → r ≡ tablesFault (tablesIn (now (nodes .entry)) edges choices (now (texts .entry)) bytes (n .annotations) root space)) ⌝ }
+    ensures { λ r. ⌜ (r ≡ 0 → Wide 8 (now (nodes .entry)) (length (now (nodes .entry))) × Wide 3 (now (texts .entry)) (length (now (texts .entry)))) ⌝ }
 {
     let h = header_fault(n.nodes, n.edges, n.texts, n.annotations, n.choices);
     let rest = or_else(nodes_fault(nodes), texts_fault(texts));
@@ -45,7 +46,7 @@ pub fn write_right(
     out: &mut [u8],
 ) -> Outcome
     requires { ⌜ tablesFault (tablesIn (now nodes) (now edges) (now choices) (now texts) (now bytes) (n .annotations) (n .root .0) (n .space .0)) ≡ 0 ⌝ }
-    requires { ⌜ length (now bytes) ≡ lengths (now texts) ⌝ }
+    requires { ⌜ Sized (tablesIn (now nodes) (now edges) (now choices) (now texts) (now bytes) (n .annotations) (n .root .0) (n .space .0)) ⌝ }
     requires { ⌜ Judged (tablesIn (now nodes) (now edges) (now choices) (now texts) (now bytes) (n .annotations) (n .root .0) (n .space .0)) 0 ⌝ }
     ensures { λ r. ⌜ Writes (tablesIn (now (nodes .entry)) (now (edges .entry)) (now (choices .entry)) (now (texts .entry)) (now (bytes .entry)) (n .annotations) (n .root .0) (n .space .0)) (length (now (bytes .entry)) ≡ lengths (now (texts .entry))) (now (out .entry)) (now (out .exit)) r ⌝ }
 {

@@ -82,6 +82,37 @@ fn rules() {
     one(counts(1, 0, 1, 0), [5, 0, 0, 0, 0, 0, 0, 0], space, 32);
 }
 
+// A choice list that is not the two of its Choice, and one that is.
+fn lists() {
+    let empty = [0u32; 8];
+    let choice = [9u32, 1, 2, 0, 0, 0, 2, 0];
+    let nodes = [choice, empty, empty];
+    let texts = [[1u32, 1, 0]; 1];
+    let bytes = [32u8; 1];
+    let numbers = [0u32; 1];
+    let wrong = [1u32, 1];
+    let right = [1u32, 2];
+    let mut out = [0u8; 64];
+    say(write(
+        counts(3, 2, 1, 0),
+        &nodes,
+        &numbers,
+        &wrong,
+        &texts,
+        &bytes,
+        &mut out,
+    ));
+    say(write(
+        counts(3, 2, 1, 0),
+        &nodes,
+        &numbers,
+        &right,
+        &texts,
+        &bytes,
+        &mut out,
+    ));
+}
+
 // 4,097 nodes are 4 where they are lent, and 1 where they are not.
 fn limits() {
     let node = [0u32; 8];
@@ -202,6 +233,7 @@ fn main() {
     more_forms();
     orders();
     rules();
+    lists();
     limits();
     totals();
     short();

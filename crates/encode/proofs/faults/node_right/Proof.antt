@@ -38,7 +38,7 @@ both-requires-3 c κs = search needs
 
 returns : tie.Need-returns
 unfolding nodeRight
-returns c = rw (c .both3 .ensures, c .before .map-right .ensures, c .before .before .both2 .ensures, c .before .before .before .pair-right .ensures, c .before .before .before .before .both .ensures, c .before .before .before .before .before .only .ensures, c .before .before .before .before .before .before .node-map .ensures .0)
+returns c = (rw (c .both3 .ensures, c .before .map-right .ensures, c .before .before .both2 .ensures, c .before .before .before .pair-right .ensures, c .before .before .before .before .both .ensures, c .before .before .before .before .before .only .ensures, c .before .before .before .before .before .before .node-map .ensures .0), c .before .before .before .before .before .before .before .good .0 .1 .0 .1)
 
 pub node-right-spec : {M : Type 1} → statement M
 node-right-spec =

@@ -5,19 +5,20 @@ use lib.ListN.{length, drop}
 use native.Mathlib.Omega.{arith}
 use borrow.Author.Needs.{needs}
 use borrow.Author.Tests.{not-true, not-false}
+use Rattle.encode.specs.Encode.{Wide}
 use Rattle.encode.specs.Faults.{nodesFault}
-use Rattle.encode.proofs.Laws.{nodes-wrong, nodes-on, nodes-end}
+use Rattle.encode.proofs.Laws.{nodes-wrong, nodes-on, nodes-end, wide-on, wide-all}
 use Rattle.encode.proofs.faults.nodes_fault.Statement.{statement}
 use Rattle.encode.proofs.faults.nodes_fault.Tie as tie
 
 abbrev Inv-loop : tie.InvT-loop
-Inv-loop nodes i₀ i = (i ≤ length nodes) × (nodesFault nodes ≡ nodesFault (drop i nodes))
+Inv-loop nodes i₀ i = (i ≤ length nodes) × ((nodesFault nodes ≡ nodesFault (drop i nodes)) × Wide 8 nodes i)
 
 abbrev μ-loop : tie.MeasureT-loop
 μ-loop nodes i₀ i = length nodes - i
 
 loop-holds : tie.Need-loop-holds Inv-loop μ-loop
-loop-holds c = (omega arith, refl)
+loop-holds c = (omega arith, (refl, λ k h. absurd (omega arith)))
 
 mul-row : tie.Need-mul-row Inv-loop μ-loop
 mul-row c = search needs
@@ -29,7 +30,7 @@ node-right-requires : tie.Need-node-right-requires Inv-loop μ-loop
 node-right-requires c κs = search needs
 
 returns : tie.Need-returns Inv-loop μ-loop
-returns c = sym (c .before .before .before .before .loop .inv .1 ∙ nodes-wrong (now (c .before .before .before .before .before .args .nodes)) (c .before .before .before .before .loop .i) (c .before .before .before .loop-test .taken) (sym (c .before .node-right .ensures) ∙ not-true _ (c .if1 .taken)))
+returns c = (sym (c .before .before .before .before .loop .inv .1 .0 ∙ nodes-wrong (now (c .before .before .before .before .before .args .nodes)) (c .before .before .before .before .loop .i) (c .before .before .before .loop-test .taken) (sym (c .before .node-right .ensures .0) ∙ not-true _ (c .if1 .taken))), λ e. absurd (omega arith))
 
 add-i : tie.Need-add-i Inv-loop μ-loop
 add-i c = omega arith
@@ -38,10 +39,10 @@ loop-less : tie.Need-loop-less Inv-loop μ-loop
 loop-less c = omega arith
 
 loop-again : tie.Need-loop-again Inv-loop μ-loop
-loop-again c = (omega arith, c .before .before .before .before .loop .inv .1 ∙ nodes-on (now (c .before .before .before .before .before .args .nodes)) (c .before .before .before .before .loop .i) (c .before .before .before .loop-test .taken) (sym (c .before .node-right .ensures) ∙ not-false _ (c .if1 .left)))
+loop-again c = (omega arith, (c .before .before .before .before .loop .inv .1 .0 ∙ nodes-on (now (c .before .before .before .before .before .args .nodes)) (c .before .before .before .before .loop .i) (c .before .before .before .loop-test .taken) (sym (c .before .node-right .ensures .0) ∙ not-false _ (c .if1 .left)), wide-on 8 (now (c .before .before .before .before .before .args .nodes)) (c .before .before .before .before .loop .i) (c .before .before .before .before .loop .inv .1 .1) (c .before .node-right .ensures .1)))
 
 returns-2 : tie.Need-returns-2 Inv-loop μ-loop
-returns-2 c = sym (c .before .loop .inv .1 ∙ nodes-end (now (c .before .before .args .nodes)) (c .before .loop .i) (c .loop-test .left))
+returns-2 c = (sym (c .before .loop .inv .1 .0 ∙ nodes-end (now (c .before .before .args .nodes)) (c .before .loop .i) (c .loop-test .left)), λ e. wide-all 8 (now (c .before .before .args .nodes)) (c .before .loop .i) (c .before .loop .inv .1 .1) (c .loop-test .left))
 
 pub nodes-fault-spec : {M : Type 1} → statement M
 nodes-fault-spec =

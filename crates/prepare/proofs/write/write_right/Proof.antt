@@ -11,7 +11,7 @@ put-tables-requires : tie.Need-put-tables-requires
 put-tables-requires c κs = search needs
 
 returns : tie.Need-returns
-returns c = answer-room _ _ (c .before .before .before .before .before .before .before .before .pre .1 .0) (now (c .before .before .before .before .before .before .before .before .args .out)) _ _ (c .before .before .put-tables .result) (c .before .before .before .before .before .before .before .before .pre .0) (c .before .before .before .before .before .before .before .before .pre .1 .1) (c .before .before .put-tables .ensures .0) (c .if1 .taken)
+returns c = answer-room _ _ (c .before .before .before .before .before .before .before .before .pre .1 .0 .bytes) (now (c .before .before .before .before .before .before .before .before .args .out)) _ _ (c .before .before .put-tables .result) (c .before .before .before .before .before .before .before .before .pre .0) (c .before .before .before .before .before .before .before .before .pre .1 .1) (c .before .before .put-tables .ensures .0) (c .if1 .taken)
 
 put-tables-requires-2 : tie.Need-put-tables-requires-2
 put-tables-requires-2 c κs = search needs
@@ -20,7 +20,7 @@ same-length : tie.Need-same-length
 same-length c = search needs
 
 returns-2 : tie.Need-returns-2
-returns-2 c = answer-written _ _ (c .before .before .before .before .before .before .before .before .before .before .before .before .pre .1 .0) (now (c .before .before .before .before .before .before .before .before .before .before .before .before .args .out)) _ _ _ (c .before .before .before .before .before .before .put-tables .result) (c .before .before .put-tables2 .result) (c .before .before .before .before .before .before .before .before .before .before .before .before .pre .0) (c .before .before .before .before .before .before .before .before .before .before .before .before .pre .1 .1) (c .before .before .before .before .before .before .put-tables .ensures .0) (c .before .before .before .before .if1 .left) (c .before .before .put-tables2 .ensures .0)
+returns-2 c = answer-written _ _ (c .before .before .before .before .before .before .before .before .before .before .before .before .pre .1 .0 .bytes) (now (c .before .before .before .before .before .before .before .before .before .before .before .before .args .out)) _ _ _ (c .before .before .before .before .before .before .put-tables .result) (c .before .before .put-tables2 .result) (c .before .before .before .before .before .before .before .before .before .before .before .before .pre .1 .0) (c .before .before .before .before .before .before .before .before .before .before .before .before .pre .0) (c .before .before .before .before .before .before .before .before .before .before .before .before .pre .1 .1) (c .before .before .before .before .before .before .put-tables .ensures .0) (c .before .before .before .before .if1 .left) (c .before .before .put-tables2 .ensures .0)
 
 pub write-right-spec : {M : Type 1} → statement M
 write-right-spec =

@@ -1,0 +1,1 @@
+// One task of the exact solver (laidout's execute_task). Here: what it relies on (specs/Turn).

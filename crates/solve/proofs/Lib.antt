@@ -1,0 +1,4 @@
+mod Turns
+mod Least
+mod Starts
+mod Arranging

@@ -1,0 +1,238 @@
+-- The start of a call, whatever the working memory holds; and its end: the root's result, and the best candidate.
+use mathlib.Core.Path.{_≡_, refl, sym, ap, _∙_, subst}
+use mathlib.Core.List.{List, [], _∷_, map}
+use Prim.Native.Nat.{ℕ, zero, suc, _-_, _≤_, _<_, _^_}
+use native.Mathlib.Omega.{arith}
+use lib.ListN.{length, getD, length-append, length-map}
+use Rattle.stats.specs.declared.SolveStats.{SolveStats}
+use Rattle.layout.specs.Document.{Doc}
+use Rattle.layout.specs.Layout.{Plan}
+use Rattle.layout.specs.Reading.{document, document-reads}
+use Rattle.layout.specs.Rules.{Rules}
+use Rattle.layout.specs.Table.{Table}
+use Rattle.memo.specs.declared.MemoKey.{MemoKey}
+use Rattle.memo.specs.Entries.{listed}
+use Rattle.memo.specs.Index.{Sound as Indexed}
+use Rattle.plan.specs.Arena.{arena}
+use Rattle.frontier.specs.declared.Builder.{Builder}
+use Rattle.frontier.specs.Candidates.{chain, survivors}
+use Rattle.frontier.specs.Kept.{Opened}
+use Rattle.machine.specs.Events.{Counts, Prog, ret, _>>=_, Out, done, stop, run, counted, PlanNodes, no-counts}
+use Rattle.machine.specs.Programs.{run-bind, and-then}
+use Rattle.machine.specs.Programs.{value as value-of}
+use Rattle.machine.specs.Model.{Prepared, Candidate, Scratch, part, range, within-range, memo-key, Task, Eval, State, blank-state, with-tasks, Got, got}
+use Rattle.machine.specs.Solver.{push-exact-task, pop-exact-result}
+use Rattle.machine.specs.Solve.{rest, Solved, best-of, solve-tasks, take-best, solve}
+use Rattle.meaning.specs.Post.{post-value}
+use Rattle.meaning.specs.Fronts.{Front, means}
+use Rattle.meaning.specs.Relations.{All2, nil, cons, all2-length, Some, laid, headed}
+use Rattle.meaning.specs.Typed.{Cont, c-done, c-eval, RangeDen}
+use Rattle.meaning.specs.Ready.{Ready}
+use Rattle.meaning.specs.Sound.{Inv, ResAt}
+use Rattle.meaning.specs.Rest.{Kept}
+use Rattle.meaning.specs.Found.{goal, tasks-end}
+use Rattle.workspace.specs.declared.Bounds.{Bounds}
+use Rattle.workspace.specs.declared.Registers.{Registers}
+use Rattle.workspace.specs.declared.Candidate.{Candidate as Code}
+use Rattle.workspace.specs.declared.Why.{Why}
+use Rattle.workspace.specs.declared.Answer.{Answer}
+use Rattle.workspace.specs.declared.Answer.the-variants.{Go, Stop}
+use Rattle.workspace.specs.Meets.{limits, tally, counts, reason, out, Sound, Meets}
+use Rattle.workspace.specs.Rows.{Row, at, pile, range-of, row-list, candidate-of, candidate, node-of, abs}
+use Rattle.workspace.specs.Frames.{Popped, Memory, no-entry}
+use Rattle.workspace.specs.Stacks.{pop-is}
+use Rattle.solve.specs.declared.Solution.the-variants.{Found}
+use Rattle.solve.specs.Accepted.{Typed, MemoRoom, Topped}
+use Rattle.solve.specs.Outcome.{outcome, least-of}
+use Rattle.solve.proofs.Turns.{value-is}
+
+-- ---- the start
+
+abbrev pub no-stats : SolveStats
+no-stats = record {
+  «work_items» = 0;
+  «fit_checks» = 0;
+  «memo_hits» = 0;
+  «memo_misses» = 0;
+  «candidates_generated» = 0;
+  «candidates_pruned» = 0;
+  «peak_frontier» = 0;
+  «memo_entries» = 0;
+  «plan_nodes» = 0;
+  visits = 0;
+}
+
+abbrev pub start : Builder → Registers
+start o = record { tasks = 0; results = 0; pending = 0; memo = 0; kept = 0; plans = 0; start = 0; len = 0; builder = o; stats = no-stats }
+
+chain-length : (m : List ℕ) (c n : ℕ) → length (chain m c n) ≡ n
+chain-length m c zero = refl
+chain-length m c (suc n) = ap suc (chain-length m _ n)
+
+none-lives : (o : Builder) → Opened o → o .live ≡ 0
+unfolding survivors
+none-lives o h = sym (chain-length [] (o .head) (o .live)) ∙ (sym (length-map (chain [] (o .head) (o .live)) _) ∙ ap length (h .empty []))
+
+pub start-sound : (b : Bounds) (o : Builder) → Opened o → b .stack < 2 ^ 32 → Sound b (start o)
+start-sound b o h f =
+    let l : o .live ≡ 0 = none-lives o h in
+    record {
+      hits = omega arith;
+      misses = omega arith;
+      generated = omega arith;
+      pruned = omega (arith, l);
+      work = omega arith;
+      tasks = omega arith;
+      results = omega arith;
+      pending = omega arith;
+      memo = omega arith;
+      kept = omega arith;
+      plans = omega arith;
+      stack = f;
+    }
+
+blank-is : (o : Builder) → Opened o → (ts rs ps es ks : List Row) (fs : List ℕ) (ns : List Row) → abs (start o) ts rs ps es ks fs ns ≡ blank-state
+unfolding abs listed arena
+blank-is o h ts rs ps es ks fs ns = rw (h .empty fs)
+
+pub starts : (R : Rules) (P : Prepared) (o : Builder) → Opened o → (ts rs ps es ks : List Row) (fs : List ℕ) (ns : List Row)
+    → solve-tasks R P ≡ (push-exact-task (Eval (memo-key (P .root) 0 0)) (abs (start o) ts rs ps es ks fs ns) >>= rest R P)
+unfolding solve-tasks
+starts R P o h ts rs ps es ks fs ns = ap (λ (S : State). push-exact-task (Eval (memo-key (P .root) 0 0)) S >>= rest R P) (sym (blank-is o h ts rs ps es ks fs ns))
+
+pub from-start : {b : Bounds} {k : Counts} {p q : Prog State} {a : Answer} {f : Registers → State} → p ≡ q → Meets b k q a f → Meets b k p a f
+from-start {b = b} {k = k} e m = record { is = ap (run (limits b) k) e ∙ m .is; sound = m .sound }
+
+-- a memo of no entries, in any words
+indexed : (ss : List ℕ) (es : List Row) → Indexed ss es 0
+indexed ss es = record {
+  room = omega arith;
+  within = λ k l. absurd (omega arith);
+  named = λ k l. absurd (omega arith);
+  path = λ k l. absurd (omega arith);
+  single = λ k j l. absurd (omega arith);
+}
+
+pub memory : (b : Bounds) (ss : List ℕ) (es : List Row) (n : ℕ) → n ≡ 0 → MemoRoom b ss es → Memory b n ss es
+unfolding listed
+memory b ss es n e h = rw e (record { index = indexed ss es; narrow = no-entry; slots = h .slots; entries = h .entries })
+
+pub typed-start : (R : Rules) (P : Prepared) → Ready P → (q : MemoKey) (b : Bounds) (o : Builder) → Opened o → (k : Counts) (ts rs ps es ks : List Row) (fs : List ℕ) (ns : List Row) (a : Answer) (f : Registers → State) (z : Registers)
+    → Meets b k (push-exact-task (Eval q) (abs (start o) ts rs ps es ks fs ns)) a f → a ≡ Go z → Typed R P (f z)
+unfolding push-exact-task
+typed-start R P K q b o h k ts rs ps es ks fs ns a f z m e =
+    let D = document (P .table) (K .ranked) in
+    let v : with-tasks (Eval q ∷ []) blank-state ≡ f z = ap (λ (S : State). with-tasks (Eval q ∷ S .tasks) S) (sym (blank-is o h ts rs ps es ks fs ns)) ∙ value-is m e in
+    record {
+      documents = D;
+      reads = document-reads (P .table) (K .ranked);
+      goal = means R (P .table) D q;
+      inv = subst (λ (S : State). Inv R P D (means R (P .table) D q) S) v (record { types = []; conts = c-eval c-done; res = nil; memos = tt });
+    }
+
+-- ---- the end
+
+done-types : {R : Rules} {T : Table} {D : ℕ → Doc} {g : Front} {k : List Candidate} {ps : List Plan} {Es : List Front} {qs : List Scratch} → Cont R T D g k ps [] Es qs → Es ≡ g ∷ []
+done-types c-done = refl
+
+-- the result on top, of a stack with one
+pub record Top (rows : List Row) (n : ℕ) : Type 0 where
+  pub under : ℕ
+  pub some : n ≡ suc under
+  pub filled : 1 ≤ at (getD rows under []) 1
+
+top-is : (R : Rules) (T : Table) (D : ℕ → Doc) (k : List Candidate) (ps : List Plan) (F : Front) (rows : List Row) (n : ℕ) → All2 (RangeDen R T D k ps) (pile range-of rows n) (F ∷ []) → Top rows n
+top-is R T D k ps F rows zero h = absurd (omega (arith, all2-length h))
+top-is R T D k ps F rows (suc n) (cons d t) = record { under = n; some = refl; filled = let c = headed d .count in omega (arith, c) }
+
+topped-as : (R : Rules) (P : Prepared) (D : ℕ → Doc) (F : Front) (s : Registers) (ts rs ps es ks : List Row) (fs : List ℕ) (ns : List Row) → ResAt R P D F (abs s ts rs ps es ks fs ns) (F ∷ []) → Top rs (s .results)
+unfolding abs
+topped-as R P D F s ts rs ps es ks fs ns h = top-is R (P .table) D _ _ F rs (s .results) h
+
+pub topped : (R : Rules) (P : Prepared) → Ready P → (b : Bounds) (ts rs ps es ks : List Row) (fs : List ℕ) (ns : List Row) (a : Answer) (s : Registers)
+    → Meets b no-counts (solve-tasks R P) a (λ z. abs z ts rs ps es ks fs ns) → a ≡ Go s → Sound b s → b .stack ≤ length rs → b .kept ≤ length ks → Topped s rs ks
+topped R P K b ts rs ps es ks fs ns a s m q h lr lk =
+    let D = document (P .table) (K .ranked) in
+    let reads = document-reads (P .table) (K .ranked) in
+    let g = goal R P D K reads in
+    let S = abs s ts rs ps es ks fs ns in
+    let k : Kept R P D g K reads [] S = subst (λ (Z : State). Kept R P D g K reads [] Z) (value-is m q) (post-value (tasks-end R P D K reads)) in
+    let c : Cont R (P .table) D g (S .retained) (laid (P .table) (S .plans)) [] (k .inv .types) (S .pending) =
+    subst (λ (z : List Task). Cont R (P .table) D g (S .retained) (laid (P .table) (S .plans)) z (k .inv .types) (S .pending)) (k .tasks-are) (k .inv .conts) in
+    let t : Top rs (s .results) = topped-as R P D g s ts rs ps es ks fs ns (subst (λ (z : List Front). ResAt R P D g S z) (done-types c) (k .inv .res)) in
+    record { under = t .under; some = t .some; lent = omega (arith, h .results, lr); kept = omega (arith, h .kept, lk); filled = t .filled }
+
+-- ---- the best candidate
+
+some-part : (K : List Candidate) (s n : ℕ) → 1 ≤ n → Some (part K s n)
+some-part K s zero h = absurd (omega arith)
+some-part K s (suc n) h = tt
+
+best-run : (b : Bounds) (k : Counts) (cs : List Candidate) (S : State) → Some cs
+    → run (limits b) k (best-of cs S) ≡ done (counted k (PlanNodes (length (S .plans)))) (record { root = least-of cs .plan .plan; cost = least-of cs .cost; plans = S .plans })
+best-run b k [] S h = absurd h
+best-run b k (c ∷ cs) S h = refl
+
+pub arena-length : (ns : List Row) (n : ℕ) → length (arena ns n) ≡ n
+unfolding arena
+arena-length ns zero = refl
+arena-length ns (suc n) = length-append (arena ns n) _ ∙ omega (arith, arena-length ns n)
+
+abbrev with-nodes : SolveStats → ℕ → SolveStats
+with-nodes t n = record {
+  «work_items» = t .«work_items»;
+  «fit_checks» = t .«fit_checks»;
+  «memo_hits» = t .«memo_hits»;
+  «memo_misses» = t .«memo_misses»;
+  «candidates_generated» = t .«candidates_generated»;
+  «candidates_pruned» = t .«candidates_pruned»;
+  «peak_frontier» = t .«peak_frontier»;
+  «memo_entries» = t .«memo_entries»;
+  «plan_nodes» = n;
+  visits = t .visits;
+}
+
+-- the popped range is the one on top
+pub popped-len : (st s : Registers) (rs ks : List Row) (t : Topped st rs ks) → pop-exact-result (abs st [] rs [] [] ks [] []) ≡ ret (got (range (s .start) (s .len)) (abs s [] rs [] [] ks [] [])) → 1 ≤ s .len
+popped-len st s rs ks t e =
+    let l : at (getD rs (t .under) []) 1 ≡ s .len = ap (λ (p : Prog Got). value-of p .range .len) (sym (pop-is st [] rs [] [] ks [] [] (t .under) (t .some)) ∙ e) in
+    omega (arith, l, t .filled)
+
+kept-of : (s : Registers) (ts rs ps es ks : List Row) (fs : List ℕ) (ns : List Row) → abs s ts rs ps es ks fs ns .retained ≡ row-list candidate-of ks (s .kept)
+unfolding abs
+kept-of s ts rs ps es ks fs ns = refl
+
+plans-of : (s : Registers) (ts rs ps es ks : List Row) (fs : List ℕ) (ns : List Row) → abs s ts rs ps es ks fs ns .plans ≡ map node-of (arena ns (s .plans))
+unfolding abs
+plans-of s ts rs ps es ks fs ns = refl
+
+pub best-is : (b : Bounds) (R : Rules) (P : Prepared) (st s : Registers) (ts rs ps es ks : List Row) (fs : List ℕ) (ns : List Row) (best : Code)
+    → pop-exact-result (abs st ts rs ps es ks fs ns) ≡ ret (got (range (s .start) (s .len)) (abs s ts rs ps es ks fs ns)) → Popped st s → 1 ≤ s .len
+    → candidate best ≡ least-of (part (row-list candidate-of ks (s .kept)) (s .start) (s .len))
+    → run (limits b) (counts st) (take-best R P (abs st ts rs ps es ks fs ns)) ≡ outcome (Found (record { root = best .plan; cost = best .cost; plans = s .plans; stats = with-nodes (s .stats) (s .plans) })) ns
+unfolding take-best
+best-is b R P st s ts rs ps es ks fs ns best e p l c =
+    let S = abs s ts rs ps es ks fs ns in
+    let cs = part (row-list candidate-of ks (s .kept)) (s .start) (s .len) in
+    let n : length (map node-of (arena ns (s .plans))) ≡ s .plans = length-map (arena ns (s .plans)) node-of ∙ arena-length ns (s .plans) in
+    let k : counted (counts st) (PlanNodes (length (S .plans))) ≡ tally (with-nodes (s .stats) (s .plans)) = rw (plans-of s ts rs ps es ks fs ns, n, p .stats) in
+    ap (λ (m : Prog Got). run (limits b) (counts st) (m >>= (λ G. best-of (within-range (G .state .retained) (G .range)) (G .state)))) e
+    ∙ ap (λ (r : List Candidate). run (limits b) (counts st) (best-of (part r (s .start) (s .len)) S)) (kept-of s ts rs ps es ks fs ns)
+    ∙ best-run b (counts st) cs S (some-part (row-list candidate-of ks (s .kept)) (s .start) (s .len) l)
+    ∙ ap (λ (j : Counts). done j (record { root = least-of cs .plan .plan; cost = least-of cs .cost; plans = S .plans })) k
+    ∙ ap (λ (x : Candidate). done (tally (with-nodes (s .stats) (s .plans))) (record { root = x .plan .plan; cost = x .cost; plans = S .plans })) (sym c)
+    ∙ ap (λ (ps : List _). done (tally (with-nodes (s .stats) (s .plans))) (record { root = candidate best .plan .plan; cost = candidate best .cost; plans = ps })) (plans-of s ts rs ps es ks fs ns)
+
+-- ---- both
+
+pub solved : {b : Bounds} (R : Rules) (P : Prepared) {a : Answer} {f : Registers → State} {s : Registers} {o : Out Solved}
+    → Meets b no-counts (solve-tasks R P) a f → a ≡ Go s → run (limits b) (counts s) (take-best R P (f s)) ≡ o → run (limits b) no-counts (solve R P) ≡ o
+unfolding solve
+solved {b = b} R P {f = f} m q r =
+    run-bind (limits b) no-counts (solve-tasks R P) (take-best R P) ∙ (ap (λ x. and-then (limits b) x (take-best R P)) (m .is ∙ ap (λ x. out x f) q) ∙ r)
+
+pub refused : {b : Bounds} (R : Rules) (P : Prepared) {a : Answer} {f : Registers → State} {s : Registers} {w : Why} {n : ℕ}
+    → Meets b no-counts (solve-tasks R P) a f → a ≡ Stop w n s → run (limits b) no-counts (solve R P) ≡ stop (reason w) n (counts s)
+unfolding solve
+refused {b = b} R P {f = f} m q =
+    run-bind (limits b) no-counts (solve-tasks R P) (take-best R P) ∙ ap (λ x. and-then (limits b) x (take-best R P)) (m .is ∙ ap (λ x. out x f) q)

@@ -1,0 +1,5 @@
+pub mod Accepted
+pub mod Outcome
+pub mod Accepts
+pub mod Numbered
+pub mod Numbers

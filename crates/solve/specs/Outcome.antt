@@ -1,0 +1,42 @@
+-- What the answer of `solve` says, as the end of a run of the machine.
+use mathlib.Core.List.{List, [], _∷_, map}
+use Prim.Native.Nat.{ℕ, _≤_, _<_, _^_}
+use lib.ListN.{length}
+use Rattle.cost.specs.Value.{value}
+use Rattle.plan.specs.Arena.{arena}
+use Rattle.plan.specs.Layouts.{Ranked}
+use Rattle.machine.specs.Events.{Out, done, stop}
+use Rattle.machine.specs.Model.{Candidate, no-candidate}
+use Rattle.machine.specs.Solve.{Solved, least-key}
+use Rattle.workspace.specs.Meets.{tally, reason}
+use Rattle.workspace.specs.Rows.{Row, node-of}
+use Rattle.solve.specs.declared.SolvedCore.{SolvedCore}
+use Rattle.solve.specs.declared.Solution.{Solution}
+use Rattle.solve.specs.declared.Solution.the-variants.{Found, Refused}
+
+-- the plan that is chosen, its cost, and the plans in the rows
+abbrev pub core : SolvedCore → List Row → Solved
+core c plans = record { root = c .root .0; cost = value (c .cost); plans = map node-of (arena plans (c .plans)) }
+
+abbrev pub outcome : Solution → List Row → Out Solved
+outcome (Found c) plans = done (tally (c .stats)) (core c plans)
+outcome (Refused why needed stats) plans = stop (reason why) needed (tally stats)
+
+-- the first least of candidates by cost and precedence
+abbrev pub least-of : List Candidate → Candidate
+least-of [] = no-candidate
+least-of (c ∷ cs) = least-key c cs
+
+-- the plans in the rows: each names earlier ones, and texts below t; and the chosen one is one of them
+pub record Arranged (t : ℕ) (c : SolvedCore) (plans : List Row) : Type 0 where
+  pub lent : c .plans ≤ length plans
+  pub few : c .plans < 2 ^ 32
+  pub ranked : Ranked t (arena plans (c .plans))
+  pub rooted : c .root .0 < c .plans
+
+abbrev pub ArrangedAt : ℕ → Solution → List Row → Type 0
+ArrangedAt t (Found c) plans = Arranged t c plans
+ArrangedAt t (Refused why needed stats) plans = Unit {0}
+
+pub record Plans (t : ℕ) (a : Solution) (plans : List Row) : Type 0 where
+  pub by : ArrangedAt t a plans
