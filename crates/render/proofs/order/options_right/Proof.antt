@@ -1,0 +1,13 @@
+use native.Mathlib.Omega.{arith}
+use Rattle.rules.proofs.Tells.{tell-no, tell-le}
+use Rattle.render.proofs.order.options_right.Statement.{statement}
+use Rattle.render.proofs.order.options_right.Tie as tie
+
+returns : tie.Need-returns
+returns c = tell-no (λ h. omega (arith, h .width))
+
+returns-2 : tie.Need-returns-2
+returns-2 c = tell-le _ _ (λ e. record { width = omega arith; policy = e }) (λ h. h .policy)
+
+pub options-right-spec : {M : Type 1} → statement M
+options-right-spec = tie.close (tie.spec returns returns-2)

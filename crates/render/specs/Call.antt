@@ -1,0 +1,90 @@
+-- What a call promises (document 01, "Calls").
+use mathlib.Core.Path.{_≡_}
+use mathlib.Core.List.{List, []}
+use Prim.Native.Nat.{ℕ, _≤_}
+use lib.ListN.{length, take}
+use Rattle.tables.specs.Tables.{Tables}
+use Rattle.layout.specs.Rules.{Rules}
+use Rattle.form.specs.declared.fill.Counts.{Counts}
+use Rattle.rules.specs.Judged.{tables}
+use Rattle.machine.specs.Events.{Counts as Tally}
+use Rattle.machine.specs.Model.{Prepared}
+use Rattle.machine.specs.Materializer.{Rendered as Page}
+use Rattle.machine.specs.Answer.{Answer, paged, answer}
+use Rattle.machine.specs.Larger.{Larger}
+use Rattle.answer.specs.Answer.{Settings, Answers}
+use Rattle.answer.specs.Page.{Promised}
+use Rattle.workspace.specs.declared.Bounds.{Bounds}
+use Rattle.workspace.specs.declared.RenderOptions.{RenderOptions}
+use Rattle.workspace.specs.Meets.{limits}
+use Rattle.workspace.specs.Reading.{prepared}
+use Rattle.materialize.specs.Rows.{Row}
+use Rattle.materialize.specs.Texts.{InBytes}
+use Rattle.solve.specs.Accepted.{Accepted}
+use Rattle.solve.specs.Numbered.{TextsBelow}
+use Rattle.render.specs.declared.page.Rendered.{Rendered}
+use Rattle.render.specs.declared.order.Lengths.{Lengths}
+use Rattle.render.specs.Order.{InOrder}
+use Rattle.render.specs.Rendered.{meant, Stands}
+
+abbrev pub settings : RenderOptions → Settings
+settings o = record { width = o .width; newline-cost = o .«newline_cost»; policy = o .policy }
+
+-- ---- the whole call
+
+-- the answer is that of document 01, with its number, needed size, counts, page, spans and cost; output and span rows stand as it says.
+-- Where it is a page, that is the page of the first of the cheapest layouts in choice order; and with sizes and limits none smaller, and memory to match, no other answer is right
+pub record Rendering (file : List ℕ) (o : RenderOptions) (b : Bounds) (l : Lengths) (output₀ output : List ℕ) (rows₀ rows : List Row) (r : Rendered) : Type 0 where
+  pub answers : Answers (InOrder o b l) file (settings o) (limits b) (meant r output rows)
+  pub stands : Stands r output₀ output rows₀ rows
+  pub promised : Promised file (settings o) (meant r output rows)
+  pub same-page : (p : Page) (k : Tally) → meant r output rows ≡ paged p k → (d : Bounds) (m : Lengths) → Larger (limits b) (limits d) → InOrder o d m
+      → (a : Answer) → Answers (InOrder o d m) file (settings o) (limits d) a → a ≡ paged p k
+
+-- ---- its parts
+
+-- tables that the solver and the materializer can work on
+pub record Readied (t : Tables) : Type 0 where
+  pub accepted : Accepted (t .nodes) (t .edges) (t .choices) (t .texts) (t .space)
+  pub below : TextsBelow (length (t .texts)) (prepared (tables (t .nodes) (t .edges) (t .choices) (t .texts) [] 0 0 (t .space)))
+  pub inside : InBytes (t .texts) (t .bytes)
+
+-- the answer is the machine's on these tables
+pub record Laid (b : Bounds) (R : Rules) (P : Prepared) (output₀ output : List ℕ) (rows₀ rows : List Row) (r : Rendered) : Type 0 where
+  pub is : meant r output rows ≡ answer R P (limits b)
+  pub stands : Stands r output₀ output rows₀ rows
+
+-- the tables that lent memory holds up to the counts
+abbrev pub held : Counts → List (List ℕ) → List ℕ → List ℕ → List (List ℕ) → List ℕ → Tables
+held n nodes edges choices texts bytes =
+    tables (take (n .nodes) nodes) (take (n .edges) edges) (take (n .choices) choices) (take (n .texts) texts) (take (n .bytes) bytes) (n .annotations) (n .root .0) (n .space .0)
+
+-- and that it is long enough for them
+pub record Holding (n : Counts) (nodes : List (List ℕ)) (edges choices : List ℕ) (texts : List (List ℕ)) (bytes : List ℕ) : Type 0 where
+  pub nodes-in : n .nodes ≤ length nodes
+  pub edges-in : n .edges ≤ length edges
+  pub choices-in : n .choices ≤ length choices
+  pub texts-in : n .texts ≤ length texts
+  pub bytes-in : n .bytes ≤ length bytes
+  pub readied : Readied (held n nodes edges choices texts bytes)
+
+abbrev pub lengths : List (List ℕ) → List ℕ → List ℕ → List (List ℕ) → List ℕ → List Row → List Row → List Row → List ℕ → List Row → List Row → List ℕ → List Row → List ℕ → List ℕ → List ℕ → List Row → Lengths
+lengths nodes edges choices texts bytes tasks results pending slots entries kept frontier plans stack held output rows = record {
+  nodes = length nodes;
+  edges = length edges;
+  choices = length choices;
+  texts = length texts;
+  bytes = length bytes;
+  tasks = length tasks;
+  results = length results;
+  pending = length pending;
+  slots = length slots;
+  entries = length entries;
+  kept = length kept;
+  frontier = length frontier;
+  plans = length plans;
+  visit = length stack;
+  held = length held;
+  output = length output;
+  spans = length rows;
+}

@@ -1,0 +1,104 @@
+-- What the answer of a call says, in the machine's words, and what stands in output and spans afterwards (document 01, "Calls").
+use mathlib.Core.Path.{_≡_}
+use mathlib.Core.Option.{Option, none, some}
+use mathlib.Core.List.{List, [], _∷_, _++_, map}
+use Prim.Native.Nat.{ℕ, zero, suc, _≤_, _<_}
+use lib.ListN.{length, take, drop, getD}
+use Rattle.cost.specs.Value.{value}
+use Rattle.cost.specs.declared.ConsumerCost.{ConsumerCost}
+use Rattle.layout.specs.Layout.{Plan}
+use Rattle.layout.specs.Spans.{Span}
+use Rattle.machine.specs.Events.{number, ret, _>>_, run}
+use Rattle.machine.specs.Materializer.{materialize, rendered}
+use Rattle.machine.specs.Answer.{Answer, paged, refused, answer-of}
+use Rattle.stats.specs.declared.SolveStats.{SolveStats}
+use Rattle.workspace.specs.declared.Bounds.{Bounds}
+use Rattle.workspace.specs.declared.Why.{Why}
+use Rattle.workspace.specs.Meets.{limits, tally, reason}
+use Rattle.materialize.specs.Rows.{Row, Fits}
+use Rattle.materialize.specs.Answer.{why-of}
+use Rattle.materialize.specs.declared.Capacity.{Capacity}
+use Rattle.materialize.specs.declared.Measured.{Measured}
+use Rattle.materialize.specs.declared.Measured.the-variants.{Page as Fitting, Refused as Lacking}
+use Rattle.solve.specs.declared.SolvedCore.{SolvedCore}
+use Rattle.render.specs.declared.page.Rendered.{Rendered}
+use Rattle.render.specs.declared.page.Rendered.the-variants.{Page, Refused}
+
+-- a span as a row of words holds it: annotation, start, end, and 0 for no parent or one more than the parent's number
+abbrev pub parent-of : ℕ → Option ℕ
+parent-of zero = none
+parent-of (suc k) = some k
+
+abbrev pub span-of : Row → Span
+span-of r = record { annotation = getD r 0 0; start = getD r 1 0; end = getD r 2 0; parent = parent-of (getD r 3 0) }
+
+-- the machine's answer: a page's bytes are the first of the output, its spans the first of the rows
+abbrev pub meant : Rendered → List ℕ → List Row → Answer
+meant (Page c n m k) output rows = paged (record { bytes = take n output; spans = map span-of (take m rows); cost = value c }) (tally k)
+meant (Refused n needed k) output rows = refused n needed (tally k)
+
+-- bytes and spans that a page has; a refusal has none
+abbrev pub page-length : Rendered → ℕ
+page-length (Page c n m k) = n
+page-length (Refused n needed k) = 0
+
+abbrev pub span-count : Rendered → ℕ
+span-count (Page c n m k) = m
+span-count (Refused n needed k) = 0
+
+abbrev pub counts-of : Rendered → SolveStats
+counts-of (Page c n m k) = k
+counts-of (Refused n needed k) = k
+
+-- n are put at the front of what was lent, and what stood past them is unaltered
+pub record Front {A : Type 0} (n : ℕ) (was is : List A) : Type 0 where
+  pub within : n ≤ length was
+  pub past : is ≡ take n is ++ drop n was
+
+-- output and span rows: a page at the front, and nothing on a refusal
+pub record Stands (r : Rendered) (output₀ output : List ℕ) (rows₀ rows : List Row) : Type 0 where
+  pub output-is : Front (page-length r) output₀ output
+  pub rows-are : Front (span-count r) rows₀ rows
+  pub fitting : (k : ℕ) → k < span-count r → Fits (getD rows k [])
+  pub no-fit-checks : counts-of r .«fit_checks» ≡ 0
+
+-- ---- the solver's part
+
+-- counts with the visits, and no fit checks
+abbrev pub with-counts : SolveStats → ℕ → SolveStats
+with-counts k v = record {
+  «work_items» = k .«work_items»;
+  «fit_checks» = 0;
+  «memo_hits» = k .«memo_hits»;
+  «memo_misses» = k .«memo_misses»;
+  «candidates_generated» = k .«candidates_generated»;
+  «candidates_pruned» = k .«candidates_pruned»;
+  «peak_frontier» = k .«peak_frontier»;
+  «memo_entries» = k .«memo_entries»;
+  «plan_nodes» = k .«plan_nodes»;
+  visits = v;
+}
+
+abbrev pub refusal : Why → ℕ → SolveStats → Rendered
+refusal why needed k = Refused (number (reason why)) needed (with-counts k (k .visits))
+
+-- ---- the materializer's part
+
+abbrev pub shown : ConsumerCost → SolveStats → Measured → Rendered
+shown c k (Fitting n m v) = Page c n m (with-counts k v)
+shown c k (Lacking e needed v) = Refused (number (why-of e)) needed (with-counts k v)
+
+abbrev pub capacity : Bounds → Capacity
+capacity b = record { visit = b .visit; depth = b .depth; output = b .output; spans = b .spans; «visit_limit» = b .«visit_limit» }
+
+-- memory for the materializer is as long as its sizes say
+pub record PageRoom (b : Bounds) (stack held output : List ℕ) (rows : List Row) : Type 0 where
+  pub stack-lent : b .visit ≤ length stack
+  pub held-lent : b .depth ≤ length held
+  pub output-lent : b .output ≤ length output
+  pub rows-lent : b .spans ≤ length rows
+
+-- the answer is the machine's, once the plan of layout p is chosen
+pub record Paged (b : Bounds) (c : SolvedCore) (p : Plan) (output₀ output : List ℕ) (rows₀ rows : List Row) (r : Rendered) : Type 0 where
+  pub is : meant r output rows ≡ answer-of (run (limits b) (tally (c .stats)) (materialize p >> ret (rendered p (value (c .cost)))))
+  pub stands : Stands r output₀ output rows₀ rows

@@ -1,0 +1,3 @@
+// The public call.
+pub mod order;
+pub mod page;

@@ -1,0 +1,130 @@
+// Refusal 1: what a call is lent is held to its sizes before anything is read.
+ghost use Rattle.rules.specs.Told.{Told};
+ghost use Rattle.render.specs.Order.{OptionsRight, TablesLent, StacksLent, MemoLent, StoresLent, SolverLent, PageLent, InOrder};
+use workspace::Bounds;
+use workspace::RenderOptions;
+
+// How many rows or words each lent slice has.
+pub struct Lengths {
+    pub nodes: usize,
+    pub edges: usize,
+    pub choices: usize,
+    pub texts: usize,
+    pub bytes: usize,
+    pub tasks: usize,
+    pub results: usize,
+    pub pending: usize,
+    pub slots: usize,
+    pub entries: usize,
+    pub kept: usize,
+    pub frontier: usize,
+    pub plans: usize,
+    pub visit: usize,
+    pub held: usize,
+    pub output: usize,
+    pub spans: usize,
+}
+
+fn options_right(o: RenderOptions) -> bool
+    ensures { λ r. ⌜ Told (OptionsRight o) r ⌝ }
+{
+    if o.width == 0 {
+        return false;
+    }
+    o.policy <= 1
+}
+
+fn tables_lent(l: Lengths) -> bool
+    ensures { λ r. ⌜ Told (TablesLent l) r ⌝ }
+{
+    if l.nodes < 4096 {
+        return false;
+    }
+    if l.edges < 16384 {
+        return false;
+    }
+    if l.choices < 16384 {
+        return false;
+    }
+    if l.texts < 4096 {
+        return false;
+    }
+    65536 <= l.bytes
+}
+
+fn stacks_lent(b: Bounds, l: Lengths) -> bool
+    ensures { λ r. ⌜ Told (StacksLent b l) r ⌝ }
+{
+    let size = b.stack as usize;
+    if l.tasks < size {
+        return false;
+    }
+    if l.results < size {
+        return false;
+    }
+    size <= l.pending
+}
+
+fn memo_lent(b: Bounds, l: Lengths) -> bool
+    ensures { λ r. ⌜ Told (MemoLent b l) r ⌝ }
+{
+    if l.entries < b.memo as usize {
+        return false;
+    }
+    memo::memo_slots_for(b.memo) <= l.slots
+}
+
+fn stores_lent(b: Bounds, l: Lengths) -> bool
+    ensures { λ r. ⌜ Told (StoresLent b l) r ⌝ }
+{
+    if l.kept < b.kept as usize {
+        return false;
+    }
+    if l.frontier < (b.frontier as usize) * 14 {
+        return false;
+    }
+    b.plans as usize <= l.plans
+}
+
+fn page_lent(b: Bounds, l: Lengths) -> bool
+    ensures { λ r. ⌜ Told (PageLent b l) r ⌝ }
+{
+    if l.visit < b.visit as usize {
+        return false;
+    }
+    if l.held < b.depth as usize {
+        return false;
+    }
+    if l.output < b.output as usize {
+        return false;
+    }
+    b.spans as usize <= l.spans
+}
+
+fn solver_lent(b: Bounds, l: Lengths) -> bool
+    ensures { λ r. ⌜ Told (SolverLent b l) r ⌝ }
+{
+    if !stacks_lent(b, l) {
+        return false;
+    }
+    if !memo_lent(b, l) {
+        return false;
+    }
+    stores_lent(b, l)
+}
+
+// Whether there is nothing of refusal 1.
+pub fn in_order(o: RenderOptions, b: Bounds, l: Lengths) -> bool
+    ensures { λ r. ⌜ Told (InOrder o b l) r ⌝ }
+{
+    if !options_right(o) {
+        return false;
+    }
+    if !tables_lent(l) {
+        return false;
+    }
+    if !solver_lent(b, l) {
+        return false;
+    }
+    page_lent(b, l)
+}
