@@ -18,14 +18,12 @@ use Rattle.workspace.specs.declared.Answer.the-variants.{Go, Stop}
 use Rattle.workspace.specs.Meets.{Sound, Meets, counts}
 use Rattle.workspace.specs.Rows.{Row, abs, range-of, pile}
 use Rattle.workspace.specs.Stacks.{pile-length, with-results-to}
-use Rattle.workspace.specs.Frames.{MemoryAt, Popped}
+use Rattle.workspace.specs.Frames.{Popped}
+pub use Rattle.workspace.specs.FrameLaws.{memory-stopped}
 use Rattle.workspace.specs.Work.{popped-from}
 use Rattle.workspace.specs.Runs.{seq, halt}
 use Rattle.frontiers.specs.Wrapping.{results-from}
 use Rattle.complete.specs.Completing.{chosen}
-
-pub memory-stopped : {b : Bounds} {ss : List ℕ} {es : List Row} {a : Answer} {w : Why} {n : ℕ} {z : Registers} → a ≡ Stop w n z → MemoryAt b ss es a
-memory-stopped {b = b} {ss = ss} {es = es} e = subst (λ x. MemoryAt b ss es x) (sym e) (record { by = tt })
 
 -- what is done with the result on top, from the registers without it
 pub popped-then : {A : Type 0} {b : Bounds} {o s : Registers} {p : Prog Got} {G : Got} {a : Answer} {f : Registers → A} (g : Got → Prog A) → Popped o s → p ≡ ret G → Meets b (counts s) (g G) a f → Meets b (counts o) (p >>= g) a f

@@ -28,6 +28,7 @@ use Rattle.workspace.specs.declared.Answer.the-variants.{Go, Stop}
 use Rattle.workspace.specs.Meets.{Meets, Leads, counts}
 use Rattle.workspace.specs.Rows.{Row, abs, survivor, candidate-of, row-list}
 use Rattle.workspace.specs.Reading.{prepared, tables}
+pub use Rattle.workspace.specs.Reading.{any-space}
 use Rattle.workspace.specs.Runs.{leads-seq, halt, via}
 use Rattle.workspace.specs.Costs.{text-fine, text-stop, column-go}
 use Rattle.gaps.specs.Gaps.{spacing, bounding, gap}
@@ -102,7 +103,3 @@ retained-is s ts rs ps es ks fs ns = refl
 
 pub present-as : {b : Bounds} {k : Counts} {a : Answer} {f : Registers → State} {x y : Scratch} (S : State) → x ≡ y → Meets b k (present x S) a f → Meets b k (present y S) a f
 present-as {b = b} {k = k} {a = a} {f = f} S e m = subst (λ z. Meets b k (present z S) a f) e m
-
--- tables with the space text of a number
-abbrev pub any-space : ℕ → Prepared
-any-space n = prepared (tables [] [] [] [] [] 0 0 n)

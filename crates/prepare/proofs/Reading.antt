@@ -48,7 +48,7 @@ bounds-of s e =
       bytes = omega (arith, texts-total 0 (tablesOf s .texts) (omega arith) (r .texts), c .bytes, e .sized .bytes);
     }
 
-held-is : (s : List ℕ) (ns : List (List ℕ)) (es xs : List ℕ) (ts : List (List ℕ)) (bs : List ℕ) → Holds (tablesOf s) (countsOf s) ns es xs ts bs → held (countsOf s) ns es xs ts bs ≡ tablesOf s
+pub held-is : (s : List ℕ) (ns : List (List ℕ)) (es xs : List ℕ) (ts : List (List ℕ)) (bs : List ℕ) → Holds (tablesOf s) (countsOf s) ns es xs ts bs → held (countsOf s) ns es xs ts bs ≡ tablesOf s
 unfolding tablesOf countsOf
 held-is s ns es xs ts bs h = rw (h .node-rows, h .edge-list, h .choice-list, h .text-rows, h .byte-list)
 

@@ -22,9 +22,12 @@ pub record StacksLent (b : Bounds) (l : Lengths) : Type 0 where
   pub results : b .stack ≤ l .results
   pub pending : b .stack ≤ l .pending
 
+-- the memo has as many slots as its size takes
 pub record MemoLent (b : Bounds) (l : Lengths) : Type 0 where
   pub entries : b .memo ≤ l .entries
-  pub slots : (n : ℕ) → SlotsFor (b .memo) n → n ≤ l .slots
+  pub slots-for : ℕ
+  pub is : SlotsFor (b .memo) slots-for
+  pub slots : slots-for ≤ l .slots
 
 pub record StoresLent (b : Bounds) (l : Lengths) : Type 0 where
   pub kept : b .kept ≤ l .kept

@@ -1,3 +1,4 @@
 // The public call.
+pub mod call;
 pub mod order;
 pub mod page;

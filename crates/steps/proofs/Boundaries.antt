@@ -14,6 +14,7 @@ use Rattle.tables.specs.Tables.{Tables}
 use Rattle.machine.specs.Model.{Prepared, State, Got, got, range, children}
 use Rattle.machine.specs.Solver.{push-gaps, fill-boundary, build-pending, gap-if-fill, push-right, next-child, continue-sequence, pop-exact-result, complete-node}
 use Rattle.workspace.specs.Reading.{prepared, tables}
+pub use Rattle.workspace.specs.Reading.{any-space}
 use borrow.Author.Tests.{lt-ltb, le-ltb}
 use Rattle.workspace.specs.declared.Why.{Why}
 use Rattle.begin.specs.declared.NodeLink.{NodeLink}
@@ -24,7 +25,8 @@ use Rattle.workspace.specs.declared.Registers.{Registers}
 use Rattle.workspace.specs.declared.Answer.{Answer}
 use Rattle.workspace.specs.declared.Answer.the-variants.{Go, Stop}
 use Rattle.workspace.specs.Meets.{Meets, counts, Sound}
-use Rattle.workspace.specs.Frames.{Kept, Keeps, SameMemo}
+use Rattle.workspace.specs.Frames.{Kept, Keeps}
+pub use Rattle.workspace.specs.FrameLaws.{kept-same}
 use Rattle.workspace.specs.Rows.{Row, abs, scratch-of}
 use Rattle.workspace.specs.Runs.{seq, halt}
 use Rattle.workspace.specs.Stacks.{row-list-length, with-pending-to}
@@ -94,11 +96,3 @@ unfolding continue-sequence next-child
 continue-done {b = b} {k = k} {a = a} {g = g} R t q x i l r S T e h f m =
     let c : length (children (prepared t .table .node (q .node))) ≤ x = subst (λ y. ChildCase (children (prepared t .table .node (q .node))) x y) f (h .by) in
     rw (e, le-ltb x (length (children (prepared t .table .node (q .node)))) c) m
-
-pub kept-same : {o : Registers} (a : Answer) → Keeps o a → SameMemo o a
-kept-same (Go z) h = record { by = h .by .memo }
-kept-same (Stop w n z) h = record { by = tt }
-
--- tables with the space text of a number
-abbrev pub any-space : ℕ → Prepared
-any-space n = prepared (tables [] [] [] [] [] 0 0 n)

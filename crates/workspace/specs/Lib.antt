@@ -2,6 +2,7 @@ pub mod Meets
 pub mod Rows
 pub mod Reading
 pub mod Frames
+pub mod FrameLaws
 pub mod Runs
 pub mod Stacks
 pub mod Words
