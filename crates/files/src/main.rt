@@ -1,27 +1,9 @@
 // Files from standard input, one to a line in hexadecimal: for each the refusal's number, or `0 same` where it is accepted and, written again, has the same bytes.
-// `Z` stands for 65,535 bytes 61, and `#` begins a remark.
+// `Z` stands for 65,535 bytes 61.
 use form::fill::Counts;
+use hex_lines::Line;
 use prepare::read::Answer;
 use prepare::write::Outcome;
-ghost use Prim.Native.Nat.{_≤_};
-ghost use lib.ListN.{length};
-
-// The digit's value, or 16.
-fn nibble(c: u8) -> u8 {
-    if c < 48 {
-        return 16;
-    }
-    if c <= 57 {
-        return c - 48;
-    }
-    if c < 97 {
-        return 16;
-    }
-    if c <= 102 {
-        return c - 87;
-    }
-    16
-}
 
 fn equal(file: &[u8], out: &[u8], k: usize) -> bool {
     if k != file.len() {
@@ -88,53 +70,17 @@ fn tell(file: &[u8]) {
     }
 }
 
-// How far the line has come: its bytes, half a byte (16: none), and whether a remark has begun.
-struct Line {
-    n: usize,
-    half: u8,
-    remark: bool,
-}
-
-fn push(file: &mut [u8], n: usize, b: u8) -> usize {
-    if n < file.len() {
-        file[n] = b;
-        return n + 1;
-    }
-    file.len()
-}
-
-fn run(file: &mut [u8], from: usize) -> usize {
-    let mut n = push(file, from, 97);
-    let mut k: usize = 1;
-    while k < 65535 {
-        n = push(file, n, 97);
-        k += 1;
-    }
-    n
-}
-
-fn cut(n: usize, file: &[u8]) -> usize
-    ensures { λ r. ⌜ r ≤ length (now (file .entry)) ⌝ }
-{
-    if n <= file.len() {
-        return n;
-    }
-    file.len()
-}
-
-fn digit(line: Line, d: u8, file: &mut [u8]) -> Line {
-    let half = line.half;
-    if 15 < half {
-        return Line {
-            n: line.n,
-            half: d,
-            remark: false,
-        };
-    }
-    if 15 < d {
+// 65,535 bytes 61.
+fn run(line: Line, file: &mut [u8]) -> Line {
+    if line.remark {
         return line;
     }
-    let n = push(file, line.n, half * 16 + d);
+    let mut n = line.n;
+    let mut k: usize = 0;
+    while k < 65535 {
+        n = hex_lines::push(file, n, 97);
+        k += 1;
+    }
     Line {
         n: n,
         half: 16,
@@ -142,50 +88,24 @@ fn digit(line: Line, d: u8, file: &mut [u8]) -> Line {
     }
 }
 
-fn step(line: Line, c: u8, file: &mut [u8]) -> Line {
+// One more byte; at the end of a line its file is told.
+fn turn(line: Line, c: u8, file: &mut [u8]) -> Line {
     if c == 10 {
-        let n = cut(line.n, file);
+        let n = hex_lines::count(line, file);
         tell(&file[..n]);
-        return Line {
-            n: 0,
-            half: 16,
-            remark: false,
-        };
-    }
-    if line.remark {
-        return line;
-    }
-    if c == 35 {
-        return Line {
-            n: line.n,
-            half: 16,
-            remark: true,
-        };
+        return hex_lines::begun();
     }
     if c == 90 {
-        let n = run(file, line.n);
-        return Line {
-            n: n,
-            half: 16,
-            remark: false,
-        };
+        return run(line, file);
     }
-    let d = nibble(c);
-    if d < 16 {
-        return digit(line, d, file);
-    }
-    line
+    hex_lines::step(line, c, file)
 }
 
 fn all(input: &[u8], file: &mut [u8]) {
-    let mut line = Line {
-        n: 0,
-        half: 16,
-        remark: false,
-    };
+    let mut line = hex_lines::begun();
     let mut i: usize = 0;
     while i < input.len() {
-        line = step(line, input[i], file);
+        line = turn(line, input[i], file);
         i += 1;
     }
 }

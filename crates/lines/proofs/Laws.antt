@@ -1,13 +1,13 @@
 -- Laws of pieces put into a slice.
-use mathlib.Core.Path.{_≡_, refl, sym, ap, ap₂, _∙_}
+use mathlib.Core.Path.{_≡_, refl, sym, ap, _∙_}
 use mathlib.Core.List.{List, [], _∷_, _++_, append-nil, append-assoc}
 use Prim.Native.Nat.{ℕ, zero, suc, _+_, _-_, _≤_, _<_}
 use native.Mathlib.Omega.{arith}
-use native.Mathlib.Nat.{add-zero, add-suc}
+use native.Mathlib.Nat.{add-zero}
 use native.Mathlib.Numerals.{add-one}
-use lib.ListN.{length, take, drop, getD, set, length-set, length-append, length-take}
+use lib.ListN.{length, take, getD, set, length-set, length-append, length-take}
 use lib.Seq.{take-suc, take-suc-set, take-all, take-at, length-take-le}
-use Rattle.lines.specs.Put.{Put}
+use Rattle.lines.specs.Put.{Put, Front}
 
 -- the first i bytes of the text are put
 pub record Going (before text out : List ℕ) (at i : ℕ) : Type 0 where
@@ -51,5 +51,5 @@ and-then {a} {b} {c} {p} {q} {i} {j} {k} f g = record {
 }
 
 -- pieces from the start on are what stands there
-pub from-start : {a c p : List ℕ} {k : ℕ} → Put a 0 p c k → take k c ≡ p
-from-start f = f .front
+pub from-start : {a c p : List ℕ} {k : ℕ} → k ≤ length c → Put a 0 p c k → Front p c k
+from-start h f = record { within = h; is = f .front }

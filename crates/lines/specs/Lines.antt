@@ -26,3 +26,7 @@ refused-line number = refused ++ decimal number ++ closing
 -- `page`, work, overflow in 32 hexadecimal digits, burden, the number of spans
 unfoldable pub page-line : ℕ → ℕ → ℕ → ℕ → List ℕ
 page-line work overflow burden spans = page ++ spaced (decimal work) ++ spaced (hexadecimal overflow) ++ spaced (decimal burden) ++ spaced (decimal spans) ++ closing
+
+-- a page after its line, closed by one more byte 10
+unfoldable pub page-text : ℕ → ℕ → ℕ → ℕ → List ℕ → List ℕ
+page-text work overflow burden spans bytes = page-line work overflow burden spans ++ bytes ++ closing

@@ -1,4 +1,5 @@
-use Rattle.lines.proofs.Laws.{and-then, from-start}
+use native.Mathlib.Omega.{arith}
+use Rattle.lines.proofs.Laws.{and-then}
 use Rattle.lines.specs.Lines.{page-line}
 use borrow.Author.Needs.{needs}
 use Rattle.lines.proofs.page_line.Statement.{statement}
@@ -33,7 +34,7 @@ same-length c = search needs
 
 returns : tie.Need-returns
 unfolding page-line
-returns c = from-start (and-then (and-then (and-then (and-then (and-then (c .before .before .before .before .before .before .before .before .before .before .before .before .before .before .before .before .before .before .before .before .before .before .before .put-text .ensures) (c .before .before .before .before .before .before .before .before .before .before .before .before .before .before .before .before .before .before .before .put-spaced .ensures .0)) (c .before .before .before .before .before .before .before .before .before .before .before .before .before .before .before .put-spaced-halves .ensures .0)) (c .before .before .before .before .before .before .before .before .before .before .before .put-spaced2 .ensures .0)) (c .before .before .before .before .before .before .before .put-spaced3 .ensures .0)) (c .before .before .put-text2 .ensures))
+returns c = (and-then (and-then (and-then (and-then (and-then (c .before .before .before .before .before .before .before .before .before .before .before .before .before .before .before .before .before .before .before .before .before .before .before .put-text .ensures) (c .before .before .before .before .before .before .before .before .before .before .before .before .before .before .before .before .before .before .before .put-spaced .ensures .0)) (c .before .before .before .before .before .before .before .before .before .before .before .before .before .before .before .put-spaced-halves .ensures .0)) (c .before .before .before .before .before .before .before .before .before .before .before .put-spaced2 .ensures .0)) (c .before .before .before .before .before .before .before .put-spaced3 .ensures .0)) (c .before .before .put-text2 .ensures), omega arith)
 
 pub page-line-spec : {M : Type 1} → statement M
 page-line-spec =

@@ -1,3 +1,4 @@
+use native.Mathlib.Omega.{arith}
 use Rattle.lines.proofs.Laws.{and-then, from-start}
 use Rattle.lines.specs.Lines.{refused-line}
 use borrow.Author.Needs.{needs}
@@ -24,7 +25,7 @@ same-length c = search needs
 
 returns : tie.Need-returns
 unfolding refused-line
-returns c = from-start (and-then (and-then (c .before .before .before .before .before .before .before .before .before .before .before .put-text .ensures) (c .before .before .before .before .before .before .before .put-number .ensures .0)) (c .before .before .put-text2 .ensures))
+returns c = from-start (omega arith) (and-then (and-then (c .before .before .before .before .before .before .before .before .before .before .before .put-text .ensures) (c .before .before .before .before .before .before .before .put-number .ensures .0)) (c .before .before .put-text2 .ensures))
 
 pub refused-line-spec : {M : Type 1} → statement M
 refused-line-spec =
