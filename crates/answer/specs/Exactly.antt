@@ -8,27 +8,17 @@ use native.Mathlib.Decide.{ℕ-discrete, decLt}
 use Rattle.form.specs.declared.fill.Counts.{Counts}
 use Rattle.form.specs.Form.{formFault, tablesOf, countsOf}
 use Rattle.rules.specs.Judged.{Judged}
-use Rattle.rules.proofs.Exactly.{Verdict, verdict, judged-one}
+use Rattle.rules.proofs.Exactly.{Verdict, verdict}
 use Rattle.prepare.specs.declared.read.Answer.{Answer as FileAnswer}
 use Rattle.prepare.specs.declared.read.Answer.the-variants.{Accepted, Refused}
 use Rattle.prepare.specs.File.{Means, ill, wrong, right}
+use Rattle.prepare.specs.Laws.{means-one}
 use Rattle.machine.specs.Events.{Bounds, no-counts}
 use Rattle.machine.specs.Answer.{Answer, refused}
 use Rattle.answer.specs.Answer.{Settings, Ordered, Answers, out-of-order, wrong-file, laid-out}
 use Rattle.answer.specs.Faults.{file-faults}
 
 -- ---- what a byte string means
-
-pub means-one : {s : List ℕ} {a e : FileAnswer} → Means s a → Means s e → a ≡ e
-means-one (ill x) (ill y) = refl
-means-one (ill x) (wrong n f y j) = absurd (x f)
-means-one (ill x) (right f j) = absurd (x f)
-means-one (wrong n f x j) (ill y) = absurd (y f)
-means-one (wrong n f x j) (wrong m g y k) = ap Refused (judged-one j k)
-means-one (wrong n f x j) (right g k) = absurd (x (judged-one j k))
-means-one (right f j) (ill y) = absurd (y f)
-means-one (right f j) (wrong m g y k) = absurd (y (judged-one k j))
-means-one (right f j) (right g k) = refl
 
 pub data Meaning (s : List ℕ) : Type 0 where
   refused-by : (n : ℕ) → Means s (Refused n) → Meaning s

@@ -1,4 +1,4 @@
--- The frontier's tree as a value: a node has its left subtree, its slot, its column and its right subtree. The shapes are those of src/kernel.rs.
+-- The frontier's tree as a value: a node has its left subtree, its slot, its column and its right subtree. The shapes are those of laidout's kernel.rs.
 use mathlib.Core.Path.{_≡_}
 use mathlib.Core.Logic.{_≢_, _⊎_}
 use mathlib.Core.List.{List, [], _∷_, _++_}

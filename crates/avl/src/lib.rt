@@ -36,7 +36,7 @@ pub fn store(f: &mut [u64], s: u64, k: u64, x: u64)
     f[i] = x;
 }
 
-fn larger(a: u64, b: u64) -> u64
+pub fn larger(a: u64, b: u64) -> u64
     ensures { λ r. ⌜ r ≡ max a b ⌝ }
 {
     if a < b { b } else { a }

@@ -7,11 +7,12 @@ ghost use lib.ListN.{length, getD, take, drop};
 ghost use Rattle.layout.specs.Rules.{Rules, policy};
 ghost use Rattle.machine.specs.Events.{Prog};
 ghost use Rattle.machine.specs.Model.{Prepared};
-ghost use Rattle.machine.specs.Solver.{begin-union, begin-choice, push-alternatives};
+ghost use Rattle.machine.specs.Solver.{begin-union, begin-choice, push-alternatives, newline};
+ghost use Rattle.frontier.specs.Candidates.{carried};
 ghost use Rattle.tables.specs.Tables.{width, flat};
 ghost use Rattle.workspace.specs.Meets.{Meets, Sound, counts};
 ghost use Rattle.workspace.specs.Frames.{Keeps};
-ghost use Rattle.workspace.specs.Rows.{Row, abs};
+ghost use Rattle.workspace.specs.Rows.{Row, abs, survivor};
 ghost use Rattle.workspace.specs.Reading.{tables, rules, node-of-kind, node-of-row, edge-part};
 ghost use Rattle.machine.specs.Model.{children};
 ghost use Rattle.begin.specs.Begun.{Leafed, Filling, Begins, RowIs, first-of, link-of, ChildIs, part-length, single-begun, inner-begun, Started, skipping, listing};
@@ -102,7 +103,7 @@ pub fn node_row(nodes: &[[u32; 8]], node: u32) -> [u32; 8]
     nodes[n]
 }
 
-pub fn text_width(texts: &[[u32; 3]], text: u32) -> u32
+fn text_width(texts: &[[u32; 3]], text: u32) -> u32
     ensures { λ r. ⌜ r ≡ width (getD (now (texts .entry)) text []) ⌝ }
 {
     let t = text as usize;
@@ -113,7 +114,7 @@ pub fn text_width(texts: &[[u32; 3]], text: u32) -> u32
 }
 
 // Child `index` of a range of edges.
-pub fn child_at(edges: &[u32], start: u32, len: u32, index: u32) -> NodeLink
+fn child_at(edges: &[u32], start: u32, len: u32, index: u32) -> NodeLink
     ensures { λ r. ⌜ ChildIs (edge-part (now (edges .entry)) start len) index r ⌝ }
 {
     if len <= index {
@@ -275,7 +276,7 @@ pub fn prepared_node(
 // ---- nodes with children
 
 // Nest and Align set an indent; policy 1 lowers it below the page width.
-pub fn effective_indent(options: RenderOptions, indent: u32) -> u32
+fn effective_indent(options: RenderOptions, indent: u32) -> u32
     ensures { λ r. ⌜ r ≡ policy (options .policy) (options .width) indent ⌝ }
 {
     if options.policy == 0 {
@@ -415,12 +416,12 @@ fn begin_union(
     let Answer::Go(s) = a else {
         return a;
     };
-    let flat = MemoKey {
+    let first = MemoKey {
         node: preferred.0,
         column: key.column,
         indent: key.indent,
     };
-    workspace::push_exact_task(b, s, tasks, ExactTask::Eval(flat))
+    workspace::push_exact_task(b, s, tasks, ExactTask::Eval(first))
 }
 
 // The Choices that the list skips count as work, as if they had been evaluated.
@@ -574,6 +575,18 @@ fn text_candidate(options: RenderOptions, column: u32, text: TextId, width: u32)
     }
 }
 
+// A newline to an indent; a Fill's gaps have it too.
+pub fn newline_candidate(options: RenderOptions, indent: u32) -> ScratchCandidate
+    ensures { λ r. ⌜ ((P : Prepared) → survivor (carried r) ≡ newline (rules options) P indent) ⌝ }
+{
+    let model = PreparedConsumerCostModel {
+        width: options.width,
+        newline_cost: options.newline_cost,
+    };
+    let cost = ConsumerCost::newline(model, indent);
+    workspace::scratch_candidate(cost, indent, PendingPlan::Newline { indent: indent })
+}
+
 pub fn leaf_candidate(options: RenderOptions, key: MemoKey, leaf: Leaf) -> LeafCandidate
     ensures { λ r. ⌜ Leafed (rules options) leaf key r ⌝ }
 {
@@ -584,19 +597,7 @@ pub fn leaf_candidate(options: RenderOptions, key: MemoKey, leaf: Leaf) -> LeafC
             PendingPlan::Empty,
         )),
         Leaf::Text { text, width } => text_candidate(options, key.column, text, width),
-        Leaf::Newline => {
-            let model = PreparedConsumerCostModel {
-                width: options.width,
-                newline_cost: options.newline_cost,
-            };
-            let cost = ConsumerCost::newline(model, key.indent);
-            let indent = key.indent;
-            LeafCandidate::Candidate(workspace::scratch_candidate(
-                cost,
-                indent,
-                PendingPlan::Newline { indent: indent },
-            ))
-        }
+        Leaf::Newline => LeafCandidate::Candidate(newline_candidate(options, key.indent)),
     }
 }
 

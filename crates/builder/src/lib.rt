@@ -2,7 +2,7 @@
 // the counts and the tests of sizes of document 01, "Calls".
 ghost use mathlib.Core.Path.{_≡_};
 ghost use mathlib.Core.List.{List, [], _∷_, map};
-ghost use Prim.Native.Nat.{_+_, _≤_, _%_, _^_, max};
+ghost use Prim.Native.Nat.{_+_, _≤_};
 ghost use lib.ListN.{length};
 ghost use Rattle.machine.specs.Model.{range, got};
 ghost use Rattle.machine.specs.Solver.{present as presenting, finish-builder, singleton as alone, additional-plans};
@@ -77,20 +77,13 @@ pub fn present(b: Bounds, st: Registers, slots: &mut [u64], c: ScratchCandidate)
 
 // ---- finishing: the survivors go into the kept rows, in order of presentation
 
-// The lower half of a word.
-fn narrow(word: u64) -> u32
-    ensures { λ r. ⌜ r ≡ word % 2 ^ 32 ⌝ }
-{
-    (word % 4294967296) as u32
-}
-
 // The pending plan of a candidate.
 fn pending_of(c: ScratchCandidate) -> PendingPlan
     ensures { λ r. ⌜ plan-of r ≡ survivor (carried c) .plan .plan ⌝ }
 {
-    let kind = narrow(c.kind);
-    let first = narrow(c.first);
-    let second = narrow(c.second);
+    let kind = workspace::narrow(c.kind);
+    let first = workspace::narrow(c.first);
+    let second = workspace::narrow(c.second);
     plan::pending_plan(PlanRecord {
         first: first,
         second: second,
@@ -181,15 +174,6 @@ fn commit_all(
     }
 }
 
-fn larger(a: u64, b: u64) -> u64
-    ensures { λ r. ⌜ r ≡ max a b ⌝ }
-{
-    if a < b {
-        return b;
-    }
-    a
-}
-
 // The size tests of plans and of kept candidates, in this order; then the survivors are kept, and their range stands in the registers.
 pub fn finish_builder(
     b: Bounds,
@@ -216,7 +200,7 @@ pub fn finish_builder(
                 return Answer::Stop(Why::Kept, required as u64, st);
             }
             let total = commit_all(b, st, slots, kept, plans);
-            let peak = larger(st.stats.peak_frontier, live);
+            let peak = avl::larger(st.stats.peak_frontier, live);
             let mut t = st.stats;
             t.peak_frontier = peak;
             let mut s = st;

@@ -33,15 +33,6 @@ pub struct PreparedConsumerCostModel {
 }
 
 impl PreparedConsumerCostModel {
-    pub fn new(width: u32, newline_cost: u32) -> Self
-        ensures { λ r. ⌜ (r .width ≡ width) × (r .«newline_cost» ≡ «newline_cost») ⌝ }
-    {
-        Self {
-            width,
-            newline_cost,
-        }
-    }
-
     pub fn over(self, column: u32) -> u64
         ensures { λ r. ⌜ (r ≡ Rattle.cost.specs.Charge.over (self .width) column) × (r < 2 ^ 32) ⌝ }
     {

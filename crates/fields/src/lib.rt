@@ -42,7 +42,7 @@ pub fn byte_at(s: &[u8], p: Step) -> Step
 }
 
 // A number of four bytes, or short (2).
-pub fn word_at(s: &[u8], at: usize) -> Step
+fn word_at(s: &[u8], at: usize) -> Step
     ensures { λ r. ⌜ r ≡ wordAt (now (s .entry)) at ⌝ }
 {
     if s.len() < 4 {
@@ -71,7 +71,7 @@ pub fn word_at(s: &[u8], at: usize) -> Step
 }
 
 // A present field is not 0, or form (3).
-pub fn nonzero(w: Step) -> Step
+fn nonzero(w: Step) -> Step
     ensures { λ r. ⌜ r ≡ nonzero w ⌝ }
 {
     if w.fault != 0 {
@@ -124,7 +124,7 @@ pub fn number_at(s: &[u8], on: bool, p: Step) -> Step
 }
 
 // A number from low to high, or limit (4). A refusal counts nothing.
-pub fn limited(low: u32, high: u32, f: Step) -> Step
+fn limited(low: u32, high: u32, f: Step) -> Step
     ensures { λ r. ⌜ r ≡ limited low high f ⌝ }
 {
     if f.fault != 0 {

@@ -6,7 +6,7 @@ use mathlib.Core.List.{List}
 use lib.ListN.{take}
 use Rattle.fields.specs.declared.Step.{Step}
 use Rattle.fields.specs.Header.{headerAt}
-use Rattle.tables.specs.Tables.{Tables}
+use Rattle.tables.specs.Tables.{Tables, tables}
 use Rattle.form.specs.declared.texts.Run.{Run}
 use Rattle.form.specs.declared.fill.Counts.{Counts}
 use Rattle.form.specs.declared.fill.Filled.{Filled}
@@ -59,6 +59,15 @@ module _ (s : List ℕ) where
     root = record { 0 = headerAt s .root };
     space = record { 0 = headerAt s .space };
   }
+
+-- the tables in lent memory that may be longer: the first rows of each, as many as are counted, and the first `total` bytes
+abbrev pub first-tables : Counts → ℕ → List (List ℕ) → List ℕ → List ℕ → List (List ℕ) → List ℕ → Tables
+first-tables n total nodes edges choices texts bytes =
+    tables (take (n .nodes) nodes) (take (n .edges) edges) (take (n .choices) choices) (take (n .texts) texts) (take total bytes) (n .annotations) (n .root .0) (n .space .0)
+
+-- the tables that lent memory holds up to the counts
+abbrev pub tables-held : Counts → List (List ℕ) → List ℕ → List ℕ → List (List ℕ) → List ℕ → Tables
+tables-held n nodes edges choices texts bytes = first-tables n (n .bytes) nodes edges choices texts bytes
 
 -- lent memory holds the tables t: up to the counts exactly t, anything past them
 pub record Holds (t : Tables) (n : Counts) (nodes : List (List ℕ)) (edges choices : List ℕ) (texts : List (List ℕ)) (bytes : List ℕ) : Type 0 where

@@ -3,7 +3,7 @@ ghost use mathlib.Core.Path.{_≡_};
 ghost use Rattle.form.specs.Kinds.{hasFirst, hasSecond, both, only, mapRight, pairRight};
 
 // Text, and Seq to Penalty.
-pub fn has_first(k: u32) -> bool
+fn has_first(k: u32) -> bool
     ensures { λ r. ⌜ r ≡ hasFirst k ⌝ }
 {
     if k == 1 {
@@ -16,7 +16,7 @@ pub fn has_first(k: u32) -> bool
 }
 
 // Seq, Fill, Nest, and Choice to Penalty.
-pub fn has_second(k: u32) -> bool
+fn has_second(k: u32) -> bool
     ensures { λ r. ⌜ r ≡ hasSecond k ⌝ }
 {
     if k < 4 {

@@ -17,7 +17,7 @@ pub struct Node {
 }
 
 // A byte that is right, or form (3).
-pub fn checked(ok: bool, f: Step) -> Step
+fn checked(ok: bool, f: Step) -> Step
     ensures { λ r. ⌜ r ≡ checked ok f ⌝ }
 {
     if f.fault != 0 {
@@ -33,14 +33,14 @@ pub fn checked(ok: bool, f: Step) -> Step
     }
 }
 
-pub fn map_at(s: &[u8], p: Step) -> Step
+fn map_at(s: &[u8], p: Step) -> Step
     ensures { λ r. ⌜ r ≡ mapAt (now (s .entry)) p ⌝ }
 {
     let b = byte_at(s, p);
     checked(map_right(b.value), b)
 }
 
-pub fn kind_at(s: &[u8], m: u32, p: Step) -> Step
+fn kind_at(s: &[u8], m: u32, p: Step) -> Step
     ensures { λ r. ⌜ r ≡ kindAt (now (s .entry)) m p ⌝ }
 {
     let b = byte_at(s, p);

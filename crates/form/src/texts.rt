@@ -23,7 +23,7 @@ pub struct Run {
 }
 
 // The sum is 64 bits wide, so that no length makes it wrap.
-pub fn totalled(total: usize, f: Step) -> Step
+fn totalled(total: usize, f: Step) -> Step
     requires { ⌜ total ≤ 65536 ⌝ }
     ensures { λ r. ⌜ r ≡ totalled total f ⌝ }
 {
@@ -45,7 +45,7 @@ pub fn totalled(total: usize, f: Step) -> Step
     f
 }
 
-pub fn text_head(s: &[u8], total: usize, p: Step) -> Head
+fn text_head(s: &[u8], total: usize, p: Step) -> Head
     requires { ⌜ total ≤ 65536 ⌝ }
     ensures { λ r. ⌜ r ≡ textHead (now (s .entry)) total p ⌝ }
 {
@@ -71,7 +71,7 @@ pub fn copy(src: &[u8], dst: &mut [u8])
     }
 }
 
-pub fn text_bytes(s: &[u8], l: Step, total: usize, bytes: &mut [u8]) -> Step
+fn text_bytes(s: &[u8], l: Step, total: usize, bytes: &mut [u8]) -> Step
     requires { ⌜ total + l .value ≤ length (now bytes) ⌝ }
     ensures { λ r. ⌜ (r ≡ spanAt (now (s .entry)) l) × (now (bytes .exit) ≡ sets (now (bytes .entry)) total (take (spanAt (now (s .entry)) l .value) (drop (l .at) (now (s .entry))))) ⌝ }
 {

@@ -3,9 +3,9 @@ use mathlib.Core.Path.{_≡_, refl, sym, _∙_, ap, subst}
 use mathlib.Core.Logic.{inl, inr}
 use mathlib.Core.Bool.{true, false, not}
 use mathlib.Core.List.{List, [], _∷_, _++_, map}
-use Prim.Native.Nat.{ℕ, suc, _-_, _≤_, _<_}
+use Prim.Native.Nat.{ℕ, suc, _≤_, _<_}
 use native.Mathlib.Omega.{arith}
-use lib.ListN.{length, length-append}
+use lib.ListN.{length}
 use Rattle.layout.specs.Frontier.{Cand, covers, any, keep, present}
 use Rattle.avl.specs.Mem.{word}
 use Rattle.avl.specs.Near.{entry-ord, entry-key, entry-of}
@@ -16,11 +16,9 @@ use Rattle.avl.specs.declared.Link.{Link}
 use Rattle.avl.specs.declared.Link.the-variants.{Nothing, Slot}
 use Rattle.avl.specs.LinkLaws.{link-nil, link-slot, not-nothing, slot-same}
 use Rattle.frontier.specs.declared.Builder.{Builder}
-use Rattle.frontier.specs.Candidates.{Pending, candidate-at, next, chain, survivors, pruned-by, Stands, Rest, Going}
+use Rattle.frontier.specs.Candidates.{Pending, candidate-at, next, chain, survivors, Stands, Rest, Going}
 use Rattle.frontier.specs.Chain.{Seg}
-use Rattle.frontier.specs.declared.Presented.{Presented}
-use Rattle.frontier.specs.declared.Presented.the-variants.{Done, Exhausted}
-use Rattle.frontier.specs.Kept.{Kept, Frontier, After, Presents}
+use Rattle.frontier.specs.Kept.{Kept, Frontier}
 
 pub map-length : {B : Type 0} (g : ℕ → B) (xs : List ℕ) → length (map g xs) ≡ length xs
 map-length g [] = refl
@@ -92,7 +90,7 @@ ends {m} {c} {xs} g e = go xs (g .rest)
     go [] h = refl
     go (x ∷ xs) h = absurd (not-nothing (h .slot) (sym (h .is) ∙ e))
 
--- ---- the number pruned: 1 if the candidate itself is, else as many as it removes
+-- ---- what presenting a candidate leaves: the list as it is where it is pruned, else those that it does not remove, and itself
 pub present-pruned : (l : List (Cand Pending)) (x : Cand Pending) → any (λ k. covers k x) l ≡ true → present covers l x ≡ l
 unfolding present
 present-pruned l x e = rw e
@@ -100,22 +98,3 @@ present-pruned l x e = rw e
 pub present-kept : (l : List (Cand Pending)) (x : Cand Pending) → any (λ k. covers k x) l ≡ false → present covers l x ≡ keep (λ k. not (covers x k)) l ++ x ∷ []
 unfolding present
 present-kept l x e = rw e
-
-pub pruned-itself : (l : List (Cand Pending)) (x : Cand Pending) → any (λ k. covers k x) l ≡ true → pruned-by l x ≡ 1
-pruned-itself l x e = omega (arith, ap (λ z. length z) (present-pruned l x e))
-
-pub pruned-others : (l : List (Cand Pending)) (x : Cand Pending) → any (λ k. covers k x) l ≡ false → pruned-by l x ≡ length l - length (keep (λ k. not (covers x k)) l)
-pruned-others l x e = omega (arith, ap (λ z. length z) (present-kept l x e), length-append (keep (λ k. not (covers x k)) l) (x ∷ []))
-
--- ---- an answer other than a refusal leaves no more than the size, so a refusal comes exactly where there would be more
-pub done-fits : {m n : List ℕ} {size : ℕ} {b b′ : Builder} {x : Cand Pending} {k : ℕ} → After m n size b b′ x k → length (present covers (survivors m b) x) ≤ size
-done-fits a = omega (arith, survive-few (a .frontier), ap (λ z. length z) (a .survivors-are))
-
-pub refused-if-more : (m n : List ℕ) (size : ℕ) (b : Builder) (x : Cand Pending) (r : Presented) → size < length (present covers (survivors m b) x) → Presents m n size b x r → r ≡ Exhausted (length (present covers (survivors m b) x))
-refused-if-more m n size b x (Done b′ k) h a = absurd (omega (arith, h, done-fits a))
-refused-if-more m n size b x (Exhausted k) h a = ap Exhausted (a .needed-is)
-
--- a size of 0 refuses the first candidate: 1 is needed
-pub nothing-fits : (m n : List ℕ) (b : Builder) (x : Cand Pending) (r : Presented) → survivors m b ≡ [] → Presents m n 0 b x r → r ≡ Exhausted 1
-unfolding present
-nothing-fits m n b x r e a = let l : length (present covers (survivors m b) x) ≡ 1 = ap (λ z. length (present covers z x)) e in refused-if-more m n 0 b x r (omega (arith, l)) a ∙ ap Exhausted l

@@ -1,5 +1,5 @@
 // The frontier of candidates that a builder keeps: a tree by last column, the order of presentation, and the slots that are free again
-// (src/kernel.rs: FrontierSlot, begin_builder, present, finish_builder; document 01, "Candidate and frontier"). Fourteen words a slot.
+// (laidout's FrontierSlot, begin_builder, present, finish_builder; document 01, "Candidate and frontier"). Fourteen words a slot.
 mod order;
 
 use avl::Link;

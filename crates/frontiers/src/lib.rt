@@ -42,7 +42,7 @@ fn existing(c: Candidate) -> ScratchCandidate
 }
 
 // The kept candidates of a range.
-pub fn present_range(
+fn present_range(
     b: Bounds,
     st: Registers,
     slots: &mut [u64],
@@ -124,7 +124,7 @@ fn present_charged(
 }
 
 // The kept candidates of a range, each charged and wrapped.
-pub fn present_wrapped(
+fn present_wrapped(
     b: Bounds,
     st: Registers,
     slots: &mut [u64],
@@ -156,7 +156,7 @@ pub fn present_wrapped(
 }
 
 // The pending candidates from `from` on.
-pub fn present_pending(
+fn present_pending(
     b: Bounds,
     st: Registers,
     slots: &mut [u64],

@@ -1,10 +1,8 @@
 -- Laws of a Fill's gaps.
-use mathlib.Core.Path.{_≡_, refl, sym, ap, _∙_, subst}
-use mathlib.Core.List.{List, [], _∷_}
-use Prim.Native.Nat.{ℕ, zero, suc, _+_, _-_, _≤_, _<_, _^_}
-use native.Mathlib.Omega.{arith}
-use lib.ListN.{length, getD}
-use Rattle.cost.specs.Charge.{squared, newline-cost, text-cost}
+use mathlib.Core.Path.{_≡_, sym, ap, _∙_, subst}
+use Prim.Native.Nat.{ℕ, suc, _+_, _<_, _^_}
+use lib.ListN.{getD}
+use Rattle.cost.specs.Charge.{squared, text-cost}
 use Rattle.cost.specs.Cost.{Cost}
 use Rattle.cost.specs.Value.{text-outcome, outcome, value}
 use Rattle.cost.specs.declared.ConsumerCost.{ConsumerCost}
@@ -15,9 +13,8 @@ use Rattle.layout.specs.Rules.{Rules, squares}
 use Rattle.frontier.specs.declared.ScratchCandidate.{ScratchCandidate}
 use Rattle.frontier.specs.Candidates.{carried}
 use Rattle.machine.specs.Events.{Counts, Prog, ret, emit, _>>=_}
-use Rattle.machine.specs.Programs.{bind-assoc, bind-at}
-use Rattle.machine.specs.Programs.{value as result}
-use Rattle.machine.specs.Model.{Prepared, State, Scratch, Candidate, Got, Made, PlanText, PlanNewline, scratch, no-candidate, part, range, got, within-range}
+use Rattle.machine.specs.Programs.{bind-assoc}
+use Rattle.machine.specs.Model.{Prepared, State, Scratch, Candidate, Got, Made, PlanText, scratch, no-candidate, range, within-range}
 use Rattle.machine.specs.Solver.{checked-text, push-gaps, push-joined, newline, present, begin-builder, finish-builder}
 use Rattle.workspace.specs.declared.Bounds.{Bounds}
 use Rattle.workspace.specs.declared.Registers.{Registers}
@@ -26,16 +23,11 @@ use Rattle.workspace.specs.declared.Why.the-variants.{Domain}
 use Rattle.workspace.specs.declared.Answer.{Answer}
 use Rattle.workspace.specs.declared.Answer.the-variants.{Go, Stop}
 use Rattle.workspace.specs.Meets.{Meets, Leads, counts}
-use Rattle.workspace.specs.Rows.{Row, abs, survivor, candidate-of, row-list}
-use Rattle.workspace.specs.Reading.{prepared, tables}
+use Rattle.workspace.specs.Rows.{survivor}
 pub use Rattle.workspace.specs.Reading.{any-space}
 use Rattle.workspace.specs.Runs.{leads-seq, halt, via}
 use Rattle.workspace.specs.Costs.{text-fine, text-stop, column-go}
 use Rattle.gaps.specs.Gaps.{spacing, bounding, gap}
-
-pub newline-is : (w n p indent : ℕ) (P : Prepared) (k : Cost) (c : ScratchCandidate) → k ≡ newline-cost (squared w) n indent → survivor (carried c) ≡ scratch k indent (Made (PlanNewline indent))
-    → survivor (carried c) ≡ newline (squares w n p) P indent
-newline-is w n p indent P k c f e = e ∙ ap (λ (x : Cost). scratch x indent (Made (PlanNewline indent))) f
 
 pub space-small : (w column : ℕ) (r : Costed) (k : ConsumerCost) → outcome r ≡ text-outcome w column 1 → r ≡ Is k → column + 1 < 2 ^ 32
 space-small w column r k e f = text-fine w column 1 r k e f .small
@@ -95,11 +87,6 @@ module _ (R : Rules) (P : Prepared) where
   pub gaps-none : (indent i n : ℕ) (S : State) → n ≡ 0 → push-gaps R P indent i n S ≡ ret S
   unfolding push-gaps
   gaps-none indent i n S e = rw e
-
--- what a finished or a joined state is made of
-pub retained-is : (s : Registers) (ts rs ps es ks : List Row) (fs : List ℕ) (ns : List Row) → abs s ts rs ps es ks fs ns .retained ≡ row-list candidate-of ks (s .kept)
-unfolding abs
-retained-is s ts rs ps es ks fs ns = refl
 
 pub present-as : {b : Bounds} {k : Counts} {a : Answer} {f : Registers → State} {x y : Scratch} (S : State) → x ≡ y → Meets b k (present x S) a f → Meets b k (present y S) a f
 present-as {b = b} {k = k} {a = a} {f = f} S e m = subst (λ z. Meets b k (present z S) a f) e m

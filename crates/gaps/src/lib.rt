@@ -1,4 +1,4 @@
-// A Fill's gaps (laidout's fill_boundary): after each candidate a space or a newline, and the frontier of all that this gives.
+// A Fill's gaps (the loop of laidout's fill_boundary): after each candidate a space or a newline, joined with it and left pending. Crate steps makes the frontier of them.
 // `scratch` holds the slots of the frontier that is being built.
 ghost use mathlib.Core.Path.{_≡_};
 ghost use mathlib.Core.List.{List, []};
@@ -6,7 +6,6 @@ ghost use Prim.Native.Nat.{ℕ, _+_, _≤_, _<_};
 ghost use lib.ListN.{length};
 ghost use Rattle.frontier.specs.Candidates.{carried};
 ghost use Rattle.machine.specs.Model.{Prepared, range, got};
-ghost use Rattle.machine.specs.Solver.{newline};
 ghost use Rattle.machine.specs.Solver.{push-gaps as gaps-pushed};
 ghost use Rattle.workspace.specs.Meets.{Meets, Sound, counts};
 ghost use Rattle.workspace.specs.Frames.{Keeps};
@@ -26,17 +25,6 @@ use workspace::Candidate;
 use workspace::Registers;
 use workspace::RenderOptions;
 use workspace::Why;
-
-fn newline_candidate(options: RenderOptions, indent: u32) -> ScratchCandidate
-    ensures { λ r. ⌜ ((P : Prepared) → survivor (carried r) ≡ newline (rules options) P indent) ⌝ }
-{
-    let model = PreparedConsumerCostModel {
-        width: options.width,
-        newline_cost: options.newline_cost,
-    };
-    let cost = ConsumerCost::newline(model, indent);
-    workspace::scratch_candidate(cost, indent, PendingPlan::Newline { indent: indent })
-}
 
 // The frontier of a space and of a newline.
 fn space_or_newline(
@@ -58,7 +46,7 @@ fn space_or_newline(
     let Answer::Go(s) = a else {
         return a;
     };
-    let line = newline_candidate(options, indent);
+    let line = begin::newline_candidate(options, indent);
     let a2 = builder::present(b, s, scratch, line);
     let Answer::Go(s2) = a2 else {
         return a2;

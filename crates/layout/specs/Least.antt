@@ -1,10 +1,9 @@
--- The least cost, then the earliest presented: it is in the list, none costs less, all before it cost more, and it is never pruned.
+-- The least cost, then the earliest presented: it is never pruned.
 use mathlib.Core.Path.{_≡_, refl, sym, ap, _∙_}
-use mathlib.Core.Logic.{_⊎_, inl, inr}
 use mathlib.Core.Bool.{Bool, true, false, not, cond}
 use mathlib.Core.Option.{Option, none, some}
 use mathlib.Core.List.{List, [], _∷_}
-use mathlib.Core.List.{List·Memᴰ as In, List·Memᴰ·head as here, List·Memᴰ·tail as there, List·Memᴰ·cases-cons as in-cons, List·Memᴰ·not-nil as not-in-nil}
+use mathlib.Core.List.{List·Memᴰ as In, List·Memᴰ·head as here, List·Memᴰ·tail as there, List·Memᴰ·not-nil as not-in-nil}
 use native.Mathlib.Omega.{arith}
 use Rattle.cost.specs.Cost.{Cost, cheap, cheaper}
 use Rattle.cost.specs.Logic.{no-both, and-left, and-right, and-both, not-true, not-false, false-if}
@@ -19,59 +18,7 @@ pub cheaper-by : (a b c : Cost) → Cheap a b → cheaper b c ≡ true → cheap
 unfolding cheaper
 cheaper-by a b c h t = not-false (cheap c a) (false-if (cheap c a) (λ e. no-both (cheap c b) (is-cheap c b (cheap-trans (cheap-is c a e) h)) (not-true (cheap c b) t)))
 
--- the answer is the least cost, then the earliest presented
--- w is in the list, and all before it cost strictly more
-pub data Earliest {P : Type 0} (w : Cand P) : List (Cand P) → Type 0 where
-  now : {x : Cand P} {l : List (Cand P)} → w ≡ x → Earliest w (x ∷ l)
-  later : {x : Cand P} {l : List (Cand P)} → cheaper (w .cost) (x .cost) ≡ true → Earliest w l → Earliest w (x ∷ l)
-
 module _ {P : Type 0} where
-  pub least-from-in : (b : Cand P) (l : List (Cand P)) → In (least-from b l) (b ∷ l)
-  least-from-in b [] = here refl
-  least-from-in b (x ∷ l) = go (cheaper (x .cost) (b .cost)) (least-from-in x l) (least-from-in b l)
-    where
-      old : (y : Cand P) → (y ≡ b) ⊎ In y l → In y (b ∷ x ∷ l)
-      old y (inl p) = here p
-      old y (inr n) = there (there n)
-
-      go : (t : Bool) → In (least-from x l) (x ∷ l) → In (least-from b l) (b ∷ l) → In (least-from (cond t x b) l) (b ∷ x ∷ l)
-      go true m n = there m
-      go false m n = old (least-from b l) (in-cons n)
-
-  pub least-from-le : (b : Cand P) (l : List (Cand P)) → (y : Cand P) → In y (b ∷ l) → Cheap (least-from b l .cost) (y .cost)
-  unfolding cheaper
-  least-from-le b [] y m = go (in-cons m)
-    where
-      go : (y ≡ b) ⊎ In y [] → Cheap (b .cost) (y .cost)
-      go (inl p) = rw p (cheap-refl (b .cost))
-      go (inr n) = absurd (not-in-nil n)
-  least-from-le b (x ∷ l) y m = go (cheap (b .cost) (x .cost)) refl (λ z n. least-from-le x l z n) (λ z n. least-from-le b l z n)
-    where
-      -- the rest, once it is known that the one chosen costs no more than b and x
-      over : (w : Cand P) → Cheap (w .cost) (b .cost) → Cheap (w .cost) (x .cost) → ((z : Cand P) → In z l → Cheap (w .cost) (z .cost)) → (y ≡ b) ⊎ In y (x ∷ l) → Cheap (w .cost) (y .cost)
-      over w p q r (inl e) = rw e p
-      over w p q r (inr (here e)) = rw e q
-      over w p q r (inr (there n)) = r y n
-
-      go : (t : Bool) → cheap (b .cost) (x .cost) ≡ t → ((z : Cand P) → In z (x ∷ l) → Cheap (least-from x l .cost) (z .cost)) → ((z : Cand P) → In z (b ∷ l) → Cheap (least-from b l .cost) (z .cost))
-          → Cheap (least-from (cond (not t) x b) l .cost) (y .cost)
-      go true e f g = over (least-from b l) (g b (here refl)) (cheap-trans (g b (here refl)) (cheap-is (b .cost) (x .cost) e)) (λ z n. g z (there n)) (in-cons m)
-      go false e f g = over (least-from x l) (cheap-trans (f x (here refl)) (not-cheap (b .cost) (x .cost) e)) (f x (here refl)) (λ z n. f z (there n)) (in-cons m)
-
-  pub least-first : (b : Cand P) (l : List (Cand P)) → Earliest (least-from b l) (b ∷ l)
-  unfolding cheaper
-  least-first b [] = now refl
-  least-first b (x ∷ l) = go (cheap (b .cost) (x .cost)) refl (least-first x l) (least-first b l)
-    where
-      keeps : (w : Cand P) → Cheap (b .cost) (x .cost) → Earliest w (b ∷ l) → Earliest w (b ∷ x ∷ l)
-      keeps w h (now e) = now e
-      keeps w h (later t m) = later t (later (not-false (cheap (x .cost) (w .cost)) (false-if (cheap (x .cost) (w .cost)) (λ e.
-          no-both (cheap (b .cost) (w .cost)) (is-cheap (b .cost) (w .cost) (cheap-trans h (cheap-is (x .cost) (w .cost) e))) (not-true (cheap (b .cost) (w .cost)) t)))) m)
-
-      go : (t : Bool) → cheap (b .cost) (x .cost) ≡ t → Earliest (least-from x l) (x ∷ l) → Earliest (least-from b l) (b ∷ l) → Earliest (least-from (cond (not t) x b) l) (b ∷ x ∷ l)
-      go true e f g = keeps (least-from b l) (cheap-is (b .cost) (x .cost) e) g
-      go false e f g = later (cheaper-by (least-from x l .cost) (x .cost) (b .cost) (least-from-le x l x (here refl)) (not-false (cheap (b .cost) (x .cost)) e)) f
-
   -- the first of the cheapest is never pruned
   abbrev no-dearer : Cand P → Cand P → Bool
   no-dearer x y = cheap (x .cost) (y .cost)

@@ -21,7 +21,6 @@ pub mod Listed
 pub mod Covers
 pub mod Least
 pub mod Moved
-pub mod Replan
 pub mod Letter
 pub mod Telescope
 pub mod Left

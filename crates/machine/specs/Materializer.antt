@@ -1,4 +1,4 @@
--- materialize: the walk over the chosen layout by the visit stack, with what the Rust tests on the way. It puts the layout's page and spans (Layout, Spans).
+-- materialize: the walk over the chosen layout by the visit stack, with what the Rust tests on the way. It puts the layout's page and spans (crate layout, Layout and Spans).
 use mathlib.Core.List.{List}
 use Prim.Native.Nat.{ℕ, zero, suc, _+_}
 use lib.ListN.{length}
@@ -61,7 +61,7 @@ materialize p = do
   need visit 1
   visit-plan p 0 0 0 0
 
--- the cost that the Rust counts again on this walk, from column c on, after a. It comes to the layout's cost (Materialized), so that CostWitnessMismatch never arises and nothing has to be counted
+-- the cost that the Rust counts again on this walk, from column c on, after a. It comes to the layout's cost (crate meaning, Materialized), so that CostWitnessMismatch never arises and nothing has to be counted
 unfoldable pub recount : Rules → Plan → ℕ → Cost → Cost
 recount R blank c a = a
 recount R (put t) c a = add a (text-cost (R .charge) c (t .width))

@@ -5,4 +5,3 @@ pub mod Passes
 pub mod Fills
 pub mod Parts
 pub mod Written
-pub mod Uses

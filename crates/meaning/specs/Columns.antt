@@ -1,4 +1,4 @@
--- Where no domain test stops the solver, no text or newline of the chosen layout passes 2^32 columns and its cost has its place: so the materializer's walk, which the Rust tests again, cannot come to 11.
+-- Each step keeps columns and costs in their widths where no domain test stops it (`step-fits`). Domain draws the conclusion for the chosen layout.
 use Prim.Native.Nat.{ℕ, zero, suc, _+_, _-_, _≤_, _<_, _^_}
 use native.Mathlib.Omega.{arith}
 use mathlib.Core.Bool.{Bool, true, false, _&&_}

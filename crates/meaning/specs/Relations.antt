@@ -36,11 +36,6 @@ module _ {A B : Type 0} where
   all2-length nil = refl
   all2-length (cons r t) = ap suc (all2-length t)
 
-  pub all2-map : {C D : Type 0} {R : A → B → Type 0} {S : C → D → Type 0} {xs : List A} {ys : List B} (f : A → C) (g : B → D)
-      → ((a : A) (b : B) → R a b → S (f a) (g b)) → All2 R xs ys → All2 S (map f xs) (map g ys)
-  all2-map f g h nil = nil
-  all2-map f g h (cons r t) = cons (h _ _ r) (all2-map f g h t)
-
 -- ---- the frontier reads cost and column alone, so related lists have related frontiers
 
 pub record Like {P Q : Type 0} (S : P → Q → Type 0) (x : Cand P) (y : Cand Q) : Type 0 where

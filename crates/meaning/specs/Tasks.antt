@@ -1,4 +1,4 @@
--- Each task but Eval: the same.
+-- The completing tasks keep the typed stack and never come to what cannot be, as Sound says of Eval; Sequences has those of sequences.
 use Prim.Native.Nat.{ℕ, _+_, _-_}
 use native.Mathlib.Omega.{arith}
 use mathlib.Core.List.{List, [], _∷_, _++_, map, append-assoc, append-nil}

@@ -28,7 +28,7 @@ use workspace::Registers;
 use workspace::RenderOptions;
 use workspace::Why;
 
-pub fn complete_singleton(
+fn complete_singleton(
     b: Bounds,
     st: Registers,
     scratch: &mut [u64],

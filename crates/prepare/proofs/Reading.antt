@@ -1,24 +1,23 @@
 -- What the parts of `read` say of the whole.
-use mathlib.Core.Path.{_≡_, refl, sym, ap, _∙_}
-use mathlib.Core.Bool.{Bool, true, false, true≢false}
+use mathlib.Core.Path.{_≡_, sym, _∙_}
+use mathlib.Core.Bool.{false, true≢false}
 use mathlib.Core.List.{List}
-use Prim.Native.Nat.{ℕ, _≤_, _<_}
+use Prim.Native.Nat.{ℕ, _≤_}
 use native.Mathlib.Omega.{arith}
-use lib.ListN.{length, take, getD}
+use lib.ListN.{length, take}
 use lib.Dec.{leb}
 use borrow.Author.Tests.{leb-true, leb-false}
 use Rattle.tables.specs.Tables.{Tables}
 use Rattle.form.specs.declared.fill.Counts.{Counts}
 use Rattle.form.specs.declared.fill.Filled.{Filled}
-use Rattle.form.specs.Form.{formFault, tablesOf, countsOf, Holds, Filling}
-use Rattle.encode.specs.Encode.{lengths, Sized}
+use Rattle.form.specs.Form.{formFault, tablesOf, countsOf, tables-held, Holds, Filling}
+use Rattle.encode.specs.Encode.{Sized}
 use Rattle.encode.specs.Fields.{Bytes}
-use Rattle.encode.specs.HeaderTrip.{Within}
 use Rattle.encode.specs.TextTrip.{texts-total}
-use Rattle.encode.specs.Trips.{Counted, Encoded, encoded, Right, tables-right, texts-inside}
-use Rattle.rules.specs.Judged.{Formed, Judged, tables}
+use Rattle.encode.specs.Trips.{Encoded, encoded, Right, tables-right, texts-inside}
+use Rattle.rules.specs.Judged.{Formed, Judged}
 use Rattle.prepare.specs.declared.read.Answer.the-variants.{Accepted, Refused}
-use Rattle.prepare.specs.File.{Means, ill, wrong, right, Lent, LentTold, Reads, order, refused, accepted}
+use Rattle.prepare.specs.File.{ill, wrong, right, Lent, LentTold, Reads, refused, accepted}
 
 -- the counts of an accepted file, each within its limit
 pub record Bounds (n : Counts) : Type 0 where
@@ -27,11 +26,6 @@ pub record Bounds (n : Counts) : Type 0 where
   pub choices : n .choices ≤ 16384
   pub texts : n .texts ≤ 4096
   pub bytes : n .bytes ≤ 65536
-
--- the tables that lent memory holds up to the counts
-abbrev pub held : Counts → List (List ℕ) → List ℕ → List ℕ → List (List ℕ) → List ℕ → Tables
-held n ns es xs ts bs =
-    tables (take (n .nodes) ns) (take (n .edges) es) (take (n .choices) xs) (take (n .texts) ts) (take (n .bytes) bs) (n .annotations) (n .root .0) (n .space .0)
 
 formed-of : (t : Tables) → Sized t → Right t → Formed t
 formed-of t z r = record { nodes = r .within .nodes-high; texts = record { inside = texts-inside t (z .bytes) (r .texts) } }
@@ -48,12 +42,12 @@ bounds-of s e =
       bytes = omega (arith, texts-total 0 (tablesOf s .texts) (omega arith) (r .texts), c .bytes, e .sized .bytes);
     }
 
-pub held-is : (s : List ℕ) (ns : List (List ℕ)) (es xs : List ℕ) (ts : List (List ℕ)) (bs : List ℕ) → Holds (tablesOf s) (countsOf s) ns es xs ts bs → held (countsOf s) ns es xs ts bs ≡ tablesOf s
+pub held-is : (s : List ℕ) (ns : List (List ℕ)) (es xs : List ℕ) (ts : List (List ℕ)) (bs : List ℕ) → Holds (tablesOf s) (countsOf s) ns es xs ts bs → tables-held (countsOf s) ns es xs ts bs ≡ tablesOf s
 unfolding tablesOf countsOf
 held-is s ns es xs ts bs h = rw (h .node-rows, h .edge-list, h .choice-list, h .text-rows, h .byte-list)
 
 module _ (s : List ℕ) (f : Filled) (ns : List (List ℕ)) (es xs : List ℕ) (ts : List (List ℕ)) (bs : List ℕ) (g : Filling s f ns es xs ts bs) where
-  same : held (f .counts) ns es xs ts bs ≡ tablesOf s
+  same : tables-held (f .counts) ns es xs ts bs ≡ tablesOf s
   same = rw (g .counts) (held-is s ns es xs ts bs (g .held))
 
   pub well : f .fault ≡ 0 → formFault s ≡ 0
@@ -62,7 +56,7 @@ module _ (s : List ℕ) (f : Filled) (ns : List (List ℕ)) (es xs : List ℕ) (
   pub bounds : Bytes s → f .fault ≡ 0 → Bounds (f .counts)
   bounds z e = rw (g .counts) (bounds-of s (encoded s z (well e)))
 
-  pub formed : Bytes s → f .fault ≡ 0 → Formed (held (f .counts) ns es xs ts bs)
+  pub formed : Bytes s → f .fault ≡ 0 → Formed (tables-held (f .counts) ns es xs ts bs)
   formed z e = let k = encoded s z (well e) in rw same (formed-of (tablesOf s) (k .sized) (tables-right (tablesOf s) (k .right)))
 
   pub few : Bytes s → f .fault ≡ 0 → length (take (f .counts .choices) xs) ≤ 16384
@@ -71,10 +65,10 @@ module _ (s : List ℕ) (f : Filled) (ns : List (List ℕ)) (es xs : List ℕ) (
   pub answer-ill : {lent : Type 0} → lent → (f .fault ≡ 0 → ⊥) → Reads s lent ns es xs ts bs (Refused (f .fault))
   answer-ill l n = rw (g .fault) (refused (formFault s) l (ill (λ e. n (g .fault ∙ e))))
 
-  pub answer-wrong : {lent : Type 0} → lent → f .fault ≡ 0 → (w : ℕ) → (w ≡ 0 → ⊥) → Judged (held (f .counts) ns es xs ts bs) w → Reads s lent ns es xs ts bs (Refused w)
+  pub answer-wrong : {lent : Type 0} → lent → f .fault ≡ 0 → (w : ℕ) → (w ≡ 0 → ⊥) → Judged (tables-held (f .counts) ns es xs ts bs) w → Reads s lent ns es xs ts bs (Refused w)
   answer-wrong l e w n j = refused w l (wrong w (well e) n (rw same at j))
 
-  pub answer-right : {lent : Type 0} → lent → f .fault ≡ 0 → (w : ℕ) → w ≡ 0 → Judged (held (f .counts) ns es xs ts bs) w → Reads s lent ns es xs ts bs (Accepted (f .counts))
+  pub answer-right : {lent : Type 0} → lent → f .fault ≡ 0 → (w : ℕ) → w ≡ 0 → Judged (tables-held (f .counts) ns es xs ts bs) w → Reads s lent ns es xs ts bs (Accepted (f .counts))
   answer-right l e w z j = rw (g .counts) (accepted l (right (well e) (rw (same, z) at j)) (g .held))
 
 -- whether the tables are lent at their limits

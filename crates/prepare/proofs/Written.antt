@@ -1,26 +1,25 @@
 -- What the parts of `write` say of the whole.
 use mathlib.Core.Path.{_≡_, refl, sym, ap, _∙_}
-use mathlib.Core.List.{List, [], _++_}
+use mathlib.Core.List.{List, _++_}
 use Prim.Native.Nat.{ℕ, _+_, _≤_, _<_}
 use native.Mathlib.Omega.{arith}
-use lib.ListN.{length, take, drop, getD}
-use lib.Seq.{sets, sets-eq, length-take-le}
-use Rattle.tables.specs.Tables.{Tables}
-use Rattle.form.specs.declared.fill.Counts.{Counts}
+use lib.ListN.{length, take, drop}
+use lib.Seq.{sets-eq, length-take-le}
+use Rattle.tables.specs.Tables.{Tables, tables}
 use Rattle.encode.specs.Encode.{encode, lengths, Sized}
 use Rattle.encode.specs.Faults.{orElse, headerFault, nodesFault, textsFault, tablesFault}
 use Rattle.encode.specs.NodeTrip.{or-zero}
-use Rattle.encode.specs.Trips.{Right, tables-right, texts-inside}
-use Rattle.put.specs.Put.{Put, tablesIn}
+use Rattle.encode.specs.Trips.{tables-right, texts-inside}
+use Rattle.put.specs.Put.{Put}
 use Rattle.rules.specs.Judged.{Formed, Judged}
 use Rattle.prepare.specs.declared.write.Outcome.{Outcome}
 use Rattle.prepare.specs.declared.write.Outcome.the-variants.{Written, Refused}
-use Rattle.prepare.specs.Writing.{Writes, order, ill, wrong, room, written, Cut, LentAt, lentTables}
+use Rattle.prepare.specs.Writing.{Writes, order, ill, wrong, room, written}
 
 pub fault-is : (nodes : List (List ℕ)) (edges choices : List ℕ) (texts : List (List ℕ)) (bytes : List ℕ) (n e x a c root space h m t q r : ℕ)
     → length nodes ≡ n → length edges ≡ e → length choices ≡ c → length texts ≡ x
     → h ≡ headerFault n e x a c → m ≡ nodesFault nodes → t ≡ textsFault 0 texts → q ≡ orElse m t → r ≡ orElse h q
-    → r ≡ tablesFault (tablesIn nodes edges choices texts bytes a root space)
+    → r ≡ tablesFault (tables nodes edges choices texts bytes a root space)
 unfolding tablesFault
 fault-is nodes edges choices texts bytes n e x a c root space h m t q r ln le lc lx eh em et eq er =
     rw (er, eq, em, et, eh, ln, le, lc, lx)
@@ -66,8 +65,8 @@ writes-map f g (written l s z j h e) = written (f l) s z j h e
 
 pub cut-is : (ns : List (List ℕ)) (es xs : List ℕ) (ts : List (List ℕ)) (bs : List ℕ) (a r w total : ℕ) (o o′ : List ℕ) (q : Outcome)
     → total ≡ lengths ts → total ≤ length bs
-    → Writes (tablesIn ns es xs ts (take total bs) a r w) (length (take total bs) ≡ lengths ts) o o′ q
-    → Writes (tablesIn ns es xs ts (take (lengths ts) bs) a r w) (lengths ts ≤ length bs) o o′ q
+    → Writes (tables ns es xs ts (take total bs) a r w) (length (take total bs) ≡ lengths ts) o o′ q
+    → Writes (tables ns es xs ts (take (lengths ts) bs) a r w) (lengths ts ≤ length bs) o o′ q
 cut-is ns es xs ts bs a r w total o o′ q e h p =
     let k : lengths ts ≤ length bs = omega arith in
     writes-map (λ _. k) (λ _. length-take-le (lengths ts) bs k) (rw e at p)

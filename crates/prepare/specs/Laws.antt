@@ -12,8 +12,8 @@ use Rattle.form.specs.Form.{formFault, tablesOf, countsOf, Holds}
 use Rattle.encode.specs.Encode.{encode, lengths}
 use Rattle.encode.specs.Faults.{tablesFault}
 use Rattle.encode.specs.Fields.{Bytes}
-use Rattle.encode.specs.Trips.{Encoded, encoded, ReadsBack, reads-back}
-use Rattle.put.specs.Put.{tablesIn}
+use Rattle.encode.specs.Trips.{Encoded, encoded, reads-back}
+use Rattle.rules.proofs.Exactly.{judged-one}
 use Rattle.rules.specs.Judged.{Judged, Accepted as Kept, reference, text, space, circle, list, accepted}
 use Rattle.prepare.specs.declared.read.Answer.{Answer}
 use Rattle.prepare.specs.declared.read.Answer.the-variants.{Accepted, Refused}
@@ -23,45 +23,6 @@ use Rattle.prepare.specs.File.{Means, ill, wrong, right}
 use Rattle.prepare.specs.Writing.{Writes, order, ill as not-formed, wrong as not-kept, room, written, lentTables, LentAt}
 
 -- ---- one answer
-
--- the first refusal of 6 to 10 is one number
-pub judged-one : {t : Tables} {m n : ℕ} → Judged t m → Judged t n → m ≡ n
-judged-one (reference a) (reference b) = refl
-judged-one (reference a) (text b c) = absurd (a b)
-judged-one (reference a) (space b c d) = absurd (a b)
-judged-one (reference a) (circle b c d e) = absurd (a b)
-judged-one (reference a) (list b c d e f) = absurd (a b)
-judged-one (reference a) (accepted b) = absurd (a (b .references))
-judged-one (text a b) (reference c) = absurd (c a)
-judged-one (text a b) (text c d) = refl
-judged-one (text a b) (space c d e) = absurd (b d)
-judged-one (text a b) (circle c d e f) = absurd (b d)
-judged-one (text a b) (list c d e f g) = absurd (b d)
-judged-one (text a b) (accepted c) = absurd (b (c .texts))
-judged-one (space a b c) (reference d) = absurd (d a)
-judged-one (space a b c) (text d e) = absurd (e b)
-judged-one (space a b c) (space d e f) = refl
-judged-one (space a b c) (circle d e f g) = absurd (c f)
-judged-one (space a b c) (list d e f g h) = absurd (c f)
-judged-one (space a b c) (accepted d) = absurd (c (d .space))
-judged-one (circle a b c d) (reference e) = absurd (e a)
-judged-one (circle a b c d) (text e f) = absurd (f b)
-judged-one (circle a b c d) (space e f g) = absurd (g c)
-judged-one (circle a b c d) (circle e f g h) = refl
-judged-one (circle a b c d) (list e f g h i) = absurd (h d)
-judged-one (circle a b c d) (accepted e) = absurd (e .no-circle d)
-judged-one (list a b c d e) (reference f) = absurd (f a)
-judged-one (list a b c d e) (text f g) = absurd (g b)
-judged-one (list a b c d e) (space f g h) = absurd (h c)
-judged-one (list a b c d e) (circle f g h i) = absurd (d i)
-judged-one (list a b c d e) (list f g h i j) = refl
-judged-one (list a b c d e) (accepted f) = absurd (e (f .lists))
-judged-one (accepted a) (reference b) = absurd (b (a .references))
-judged-one (accepted a) (text b c) = absurd (c (a .texts))
-judged-one (accepted a) (space b c d) = absurd (d (a .space))
-judged-one (accepted a) (circle b c d e) = absurd (a .no-circle e)
-judged-one (accepted a) (list b c d e f) = absurd (f (a .lists))
-judged-one (accepted a) (accepted b) = refl
 
 -- a byte string means one thing
 pub means-one : {s : List ℕ} {a b : Answer} → Means s a → Means s b → a ≡ b
@@ -75,7 +36,7 @@ means-one (right e j) (ill n) = absurd (n e)
 means-one (right e j) (wrong k f z i) = absurd (z (judged-one i j))
 means-one (right e j) (right f i) = refl
 
--- a file is accepted just where it is well formed: no refusal of 2 to 5, and all that 6 to 10 ask
+-- an accepted file is well formed: no refusal of 2 to 5, and all that 6 to 10 ask
 pub accepted-well : {s : List ℕ} {n : Counts} → Means s (Accepted n) → (formFault s ≡ 0) × Kept (tablesOf s)
 accepted-well (right e j) = (e, kept j refl)
   where
@@ -86,9 +47,6 @@ accepted-well (right e j) = (e, kept j refl)
     kept (circle a b c d) z = absurd (omega arith)
     kept (list a b c d e) z = absurd (omega arith)
     kept (accepted a) z = a
-
-pub well-accepted : {s : List ℕ} → formFault s ≡ 0 → Kept (tablesOf s) → Means s (Accepted (countsOf s))
-well-accepted e k = right e (accepted k)
 
 -- ---- round trips
 

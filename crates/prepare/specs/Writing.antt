@@ -5,9 +5,9 @@ use mathlib.Core.List.{List, _++_}
 use lib.ListN.{length, take, drop}
 use Rattle.tables.specs.Tables.{Tables}
 use Rattle.form.specs.declared.fill.Counts.{Counts}
+use Rattle.form.specs.Form.{first-tables}
 use Rattle.encode.specs.Encode.{encode, lengths, Sized}
 use Rattle.encode.specs.Faults.{tablesFault}
-use Rattle.put.specs.Put.{tablesIn}
 use Rattle.rules.specs.Judged.{Judged}
 use Rattle.prepare.specs.declared.write.Outcome.{Outcome}
 use Rattle.prepare.specs.declared.write.Outcome.the-variants.{Written, Refused}
@@ -15,8 +15,7 @@ use Rattle.prepare.specs.declared.write.Outcome.the-variants.{Written, R
 -- the tables that lent memory holds up to their counts; the count of the bytes is the sum of the lengths
 abbrev pub lentTables : Counts → List (List ℕ) → List ℕ → List ℕ → List (List ℕ) → List ℕ → Tables
 lentTables n nodes edges choices texts bytes =
-    tablesIn (take (n .nodes) nodes) (take (n .edges) edges) (take (n .choices) choices) (take (n .texts) texts)
-    (take (lengths (take (n .texts) texts)) bytes) (n .annotations) (n .root .0) (n .space .0)
+    first-tables n (lengths (take (n .texts) texts)) nodes edges choices texts bytes
 
 -- each table is lent at its count
 pub record LentAt (n : Counts) (nodes : List (List ℕ)) (edges choices : List ℕ) (texts : List (List ℕ)) (bytes : List ℕ) : Type 0 where

@@ -2,7 +2,8 @@
 ghost use mathlib.Core.Path.{_≡_};
 ghost use Prim.Native.Nat.{_≤_};
 ghost use lib.ListN.{length};
-ghost use Rattle.rules.specs.Judged.{Formed, Judged, tables};
+ghost use Rattle.tables.specs.Tables.{tables};
+ghost use Rattle.rules.specs.Judged.{Formed, Judged};
 ghost use Rattle.prepare.specs.File.{Lent, LentTold, Reads};
 use form::fill::Counts;
 use form::fill::fill;
@@ -78,7 +79,7 @@ pub fn read_lent(
     Answer::Accepted(n)
 }
 
-pub fn lent(nodes: usize, edges: usize, choices: usize, texts: usize, bytes: usize) -> bool
+fn lent(nodes: usize, edges: usize, choices: usize, texts: usize, bytes: usize) -> bool
     ensures { λ r. ⌜ LentTold nodes edges choices texts bytes r ⌝ }
 {
     if nodes < 4096 {

@@ -5,7 +5,7 @@ ghost use mathlib.Core.List.{List};
 ghost use lib.ListN.{length, take};
 ghost use Rattle.encode.specs.Encode.{lengths, Wide, Sized};
 ghost use Rattle.encode.specs.Faults.{tablesFault};
-ghost use Rattle.put.specs.Put.{tablesIn};
+ghost use Rattle.tables.specs.Tables.{tables};
 ghost use Rattle.rules.specs.Judged.{Judged};
 ghost use Rattle.prepare.specs.Writing.{lentTables, LentAt, Cut, Writes};
 use crate::read::judged;
@@ -25,9 +25,9 @@ pub enum Outcome {
 }
 
 // The first refusal of 3 and 4, or 0.
-pub fn tables_fault(n: Counts, nodes: &[[u32; 8]], texts: &[[u32; 3]]) -> u32
+fn tables_fault(n: Counts, nodes: &[[u32; 8]], texts: &[[u32; 3]]) -> u32
     requires { ⌜ (length (now nodes) ≡ n .nodes) × (length (now texts) ≡ n .texts) ⌝ }
-    ensures { λ r. ⌜ ((edges choices bytes : List ℕ) (root space : ℕ) → length edges ≡ n .edges → length choices ≡ n .choices → r ≡ tablesFault (tablesIn (now (nodes .entry)) edges choices (now (texts .entry)) bytes (n .annotations) root space)) ⌝ }
+    ensures { λ r. ⌜ ((edges choices bytes : List ℕ) (root space : ℕ) → length edges ≡ n .edges → length choices ≡ n .choices → r ≡ tablesFault (tables (now (nodes .entry)) edges choices (now (texts .entry)) bytes (n .annotations) root space)) ⌝ }
     ensures { λ r. ⌜ (r ≡ 0 → Wide 8 (now (nodes .entry)) (length (now (nodes .entry))) × Wide 3 (now (texts .entry)) (length (now (texts .entry)))) ⌝ }
 {
     let h = header_fault(n.nodes, n.edges, n.texts, n.annotations, n.choices);
@@ -36,7 +36,7 @@ pub fn tables_fault(n: Counts, nodes: &[[u32; 8]], texts: &[[u32; 3]]) -> u32
 }
 
 // Tables that are refused by nothing but 20. The file is measured by putting it where there is no room for it.
-pub fn write_right(
+fn write_right(
     n: Counts,
     nodes: &[[u32; 8]],
     edges: &[u32],
@@ -45,10 +45,10 @@ pub fn write_right(
     bytes: &[u8],
     out: &mut [u8],
 ) -> Outcome
-    requires { ⌜ tablesFault (tablesIn (now nodes) (now edges) (now choices) (now texts) (now bytes) (n .annotations) (n .root .0) (n .space .0)) ≡ 0 ⌝ }
-    requires { ⌜ Sized (tablesIn (now nodes) (now edges) (now choices) (now texts) (now bytes) (n .annotations) (n .root .0) (n .space .0)) ⌝ }
-    requires { ⌜ Judged (tablesIn (now nodes) (now edges) (now choices) (now texts) (now bytes) (n .annotations) (n .root .0) (n .space .0)) 0 ⌝ }
-    ensures { λ r. ⌜ Writes (tablesIn (now (nodes .entry)) (now (edges .entry)) (now (choices .entry)) (now (texts .entry)) (now (bytes .entry)) (n .annotations) (n .root .0) (n .space .0)) (length (now (bytes .entry)) ≡ lengths (now (texts .entry))) (now (out .entry)) (now (out .exit)) r ⌝ }
+    requires { ⌜ tablesFault (tables (now nodes) (now edges) (now choices) (now texts) (now bytes) (n .annotations) (n .root .0) (n .space .0)) ≡ 0 ⌝ }
+    requires { ⌜ Sized (tables (now nodes) (now edges) (now choices) (now texts) (now bytes) (n .annotations) (n .root .0) (n .space .0)) ⌝ }
+    requires { ⌜ Judged (tables (now nodes) (now edges) (now choices) (now texts) (now bytes) (n .annotations) (n .root .0) (n .space .0)) 0 ⌝ }
+    ensures { λ r. ⌜ Writes (tables (now (nodes .entry)) (now (edges .entry)) (now (choices .entry)) (now (texts .entry)) (now (bytes .entry)) (n .annotations) (n .root .0) (n .space .0)) (length (now (bytes .entry)) ≡ lengths (now (texts .entry))) (now (out .entry)) (now (out .exit)) r ⌝ }
 {
     let root = n.root.0;
     let space = n.space.0;
@@ -82,7 +82,7 @@ pub fn write_right(
 }
 
 // Tables that are lent at their counts.
-pub fn write_tables(
+fn write_tables(
     n: Counts,
     nodes: &[[u32; 8]],
     edges: &[u32],
@@ -93,7 +93,7 @@ pub fn write_tables(
 ) -> Outcome
     requires { ⌜ Cut n (now nodes) (now edges) (now choices) (now texts) ⌝ }
     requires { ⌜ length (now bytes) ≡ lengths (now texts) ⌝ }
-    ensures { λ r. ⌜ Writes (tablesIn (now (nodes .entry)) (now (edges .entry)) (now (choices .entry)) (now (texts .entry)) (now (bytes .entry)) (n .annotations) (n .root .0) (n .space .0)) (length (now (bytes .entry)) ≡ lengths (now (texts .entry))) (now (out .entry)) (now (out .exit)) r ⌝ }
+    ensures { λ r. ⌜ Writes (tables (now (nodes .entry)) (now (edges .entry)) (now (choices .entry)) (now (texts .entry)) (now (bytes .entry)) (n .annotations) (n .root .0) (n .space .0)) (length (now (bytes .entry)) ≡ lengths (now (texts .entry))) (now (out .entry)) (now (out .exit)) r ⌝ }
 {
     let f = tables_fault(n, nodes, texts);
     if f != 0 {
@@ -107,7 +107,7 @@ pub fn write_tables(
 }
 
 // The bytes are cut at the sum of the lengths.
-pub fn write_cut(
+fn write_cut(
     n: Counts,
     nodes: &[[u32; 8]],
     edges: &[u32],
@@ -117,7 +117,7 @@ pub fn write_cut(
     out: &mut [u8],
 ) -> Outcome
     requires { ⌜ Cut n (now nodes) (now edges) (now choices) (now texts) ⌝ }
-    ensures { λ r. ⌜ Writes (tablesIn (now (nodes .entry)) (now (edges .entry)) (now (choices .entry)) (now (texts .entry)) (take (lengths (now (texts .entry))) (now (bytes .entry))) (n .annotations) (n .root .0) (n .space .0)) (lengths (now (texts .entry)) ≤ length (now (bytes .entry))) (now (out .entry)) (now (out .exit)) r ⌝ }
+    ensures { λ r. ⌜ Writes (tables (now (nodes .entry)) (now (edges .entry)) (now (choices .entry)) (now (texts .entry)) (take (lengths (now (texts .entry))) (now (bytes .entry))) (n .annotations) (n .root .0) (n .space .0)) (lengths (now (texts .entry)) ≤ length (now (bytes .entry))) (now (out .entry)) (now (out .exit)) r ⌝ }
 {
     let total = text_total(texts);
     if bytes.len() < total {

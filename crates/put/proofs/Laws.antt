@@ -9,10 +9,10 @@ use lib.ListN.{length, getD, take, drop, set, length-append, length-drop}
 use lib.Seq.{take-suc, take-all, length-take-le, sets, length-sets}
 use lib.Dec.{ltb}
 use borrow.Author.Tests.{ltb-true}
-use Rattle.tables.specs.Tables.{kind, first, second, flat-word, choice-start, choice-length, skipped, width, byte-length}
+use Rattle.tables.specs.Tables.{kind, first, second, flat-word, choice-start, choice-length, skipped, width, byte-length, tables}
 use Rattle.encode.specs.Encode.{present, marked, flag, mapOf, nodeMap, textMap, headerMap, enc32, encIf, encField, encHeader, encNode, encText, encTexts, each, lengths, encode}
 use Rattle.encode.specs.Faults.{nodeRight, nodesFault}
-use Rattle.put.specs.Put.{Put, tablesIn}
+use Rattle.put.specs.Put.{Put}
 use Rattle.encode.specs.Trips.{Right}
 use Rattle.encode.specs.TextTrip.{texts-total}
 use Rattle.form.specs.Kinds.{mapRight, pairRight}
@@ -188,9 +188,9 @@ pub tables-put : (ns : List (List ℕ)) (es xs : List ℕ) (ts : List (List ℕ)
     → Put o₂ o₃ q u (each enc32 es) × (u ≤ q + 4 * length es)
     → Put o₃ o₄ u v (each enc32 xs) × (v ≤ u + 4 * length xs)
     → Put o₄ o₅ v z (encTexts ts bs) × (z ≤ v + 9 * length ts + length bs)
-    → Right (tablesIn ns es xs ts bs a r w)
+    → Right (tables ns es xs ts bs a r w)
     → length bs ≡ lengths ts
-    → Put o o₅ 0 z (encode (tablesIn ns es xs ts bs a r w)) × (z ≤ 339997)
+    → Put o o₅ 0 z (encode (tables ns es xs ts bs a r w)) × (z ≤ 339997)
 unfolding encode
 tables-put ns es xs ts bs a r w f₁ f₂ f₃ f₄ f₅ g l =
     let k = texts-total 0 ts (omega arith) (g .texts) in

@@ -3,15 +3,15 @@ ghost use mathlib.Core.Path.{_≡_};
 ghost use mathlib.Core.List.{[]};
 ghost use Prim.Native.Nat.{_+_, _*_, _≤_, _<_};
 ghost use lib.ListN.{length, set};
-ghost use Rattle.tables.specs.Tables.{kind};
-ghost use Rattle.put.specs.Put.{Put, tablesIn};
+ghost use Rattle.tables.specs.Tables.{kind, tables};
+ghost use Rattle.put.specs.Put.{Put};
 ghost use Rattle.encode.specs.Encode.{enc32, encIf, headerMap, encHeader, encNode, textMap, encText, encTexts, each, lengths, encode};
 ghost use Rattle.encode.specs.Faults.{nodesFault, textsFault, tablesFault};
 use encode::faults::flag;
 use encode::faults::long;
 use encode::faults::node_map;
 
-pub fn put(out: &mut [u8], at: usize, b: u8)
+fn put(out: &mut [u8], at: usize, b: u8)
     ensures { λ _. ⌜ now (out .exit) ≡ set (now (out .entry)) at b ⌝ }
 {
     if at < out.len() {
@@ -19,7 +19,7 @@ pub fn put(out: &mut [u8], at: usize, b: u8)
     }
 }
 
-pub fn put_word(out: &mut [u8], at: usize, v: u32) -> usize
+fn put_word(out: &mut [u8], at: usize, v: u32) -> usize
     requires { ⌜ at ≤ 1000000 ⌝ }
     ensures { λ r. ⌜ Put (now (out .entry)) (now (out .exit)) at r (enc32 v) ⌝ }
 {
@@ -30,7 +30,7 @@ pub fn put_word(out: &mut [u8], at: usize, v: u32) -> usize
     at + 4
 }
 
-pub fn put_if(out: &mut [u8], at: usize, on: bool, v: u32) -> usize
+fn put_if(out: &mut [u8], at: usize, on: bool, v: u32) -> usize
     requires { ⌜ at ≤ 1000000 ⌝ }
     ensures { λ r. ⌜ Put (now (out .entry)) (now (out .exit)) at r (encIf on v) × (r ≤ at + 4) ⌝ }
 {
@@ -40,7 +40,7 @@ pub fn put_if(out: &mut [u8], at: usize, on: bool, v: u32) -> usize
     at
 }
 
-pub fn put_node(out: &mut [u8], at: usize, row: [u32; 8]) -> usize
+fn put_node(out: &mut [u8], at: usize, row: [u32; 8]) -> usize
     requires { ⌜ (at ≤ 900000) × (kind row < 256) ⌝ }
     ensures { λ r. ⌜ Put (now (out .entry)) (now (out .exit)) at r (encNode row) × (r ≤ at + 26) ⌝ }
 {
@@ -55,7 +55,7 @@ pub fn put_node(out: &mut [u8], at: usize, row: [u32; 8]) -> usize
     put_if(out, e, 0 < row[7], row[7])
 }
 
-pub fn put_nodes(out: &mut [u8], at: usize, nodes: &[[u32; 8]]) -> usize
+fn put_nodes(out: &mut [u8], at: usize, nodes: &[[u32; 8]]) -> usize
     requires { ⌜ (at ≤ 100) × ((length (now nodes) ≤ 4096) × (nodesFault (now nodes) ≡ 0)) ⌝ }
     ensures { λ r. ⌜ Put (now (out .entry)) (now (out .exit)) at r (each encNode (now (nodes .entry))) × (r ≤ at + 26 * length (now (nodes .entry))) ⌝ }
 {
@@ -69,7 +69,7 @@ pub fn put_nodes(out: &mut [u8], at: usize, nodes: &[[u32; 8]]) -> usize
     next
 }
 
-pub fn put_numbers(out: &mut [u8], at: usize, xs: &[u32]) -> usize
+fn put_numbers(out: &mut [u8], at: usize, xs: &[u32]) -> usize
     requires { ⌜ (at ≤ 300000) × (length (now xs) ≤ 16384) ⌝ }
     ensures { λ r. ⌜ Put (now (out .entry)) (now (out .exit)) at r (each enc32 (now (xs .entry))) × (r ≤ at + 4 * length (now (xs .entry))) ⌝ }
 {
@@ -82,7 +82,7 @@ pub fn put_numbers(out: &mut [u8], at: usize, xs: &[u32]) -> usize
     next
 }
 
-pub fn put_bytes(out: &mut [u8], at: usize, part: &[u8]) -> usize
+fn put_bytes(out: &mut [u8], at: usize, part: &[u8]) -> usize
     requires { ⌜ (at ≤ 900000) × (length (now part) ≤ 65536) ⌝ }
     ensures { λ r. ⌜ Put (now (out .entry)) (now (out .exit)) at r (now (part .entry)) ⌝ }
 {
@@ -94,7 +94,7 @@ pub fn put_bytes(out: &mut [u8], at: usize, part: &[u8]) -> usize
     at + i
 }
 
-pub fn text_map(row: [u32; 3]) -> u32
+fn text_map(row: [u32; 3]) -> u32
     ensures { λ r. ⌜ (r ≡ textMap row) × (r ≤ 3) ⌝ }
 {
     let a = flag(0 < row[0]);
@@ -102,7 +102,7 @@ pub fn text_map(row: [u32; 3]) -> u32
     a + b * 2
 }
 
-pub fn put_text(out: &mut [u8], at: usize, row: [u32; 3], part: &[u8]) -> usize
+fn put_text(out: &mut [u8], at: usize, row: [u32; 3], part: &[u8]) -> usize
     requires { ⌜ (at ≤ 800000) × (length (now part) ≤ 65536) ⌝ }
     ensures { λ r. ⌜ Put (now (out .entry)) (now (out .exit)) at r (encText row (now (part .entry))) × (r ≤ at + 9 + length (now (part .entry))) ⌝ }
 {
@@ -113,7 +113,7 @@ pub fn put_text(out: &mut [u8], at: usize, row: [u32; 3], part: &[u8]) -> usize
     put_bytes(out, b, part)
 }
 
-pub fn put_texts(out: &mut [u8], at: usize, texts: &[[u32; 3]], bytes: &[u8]) -> usize
+fn put_texts(out: &mut [u8], at: usize, texts: &[[u32; 3]], bytes: &[u8]) -> usize
     requires { ⌜ (at ≤ 400000) × ((length (now texts) ≤ 4096) × ((textsFault 0 (now texts) ≡ 0) × (length (now bytes) ≡ lengths (now texts)))) ⌝ }
     ensures { λ r. ⌜ Put (now (out .entry)) (now (out .exit)) at r (encTexts (now (texts .entry)) (now (bytes .entry))) × (r ≤ at + 9 * length (now (texts .entry)) + length (now (bytes .entry))) ⌝ }
 {
@@ -131,7 +131,7 @@ pub fn put_texts(out: &mut [u8], at: usize, texts: &[[u32; 3]], bytes: &[u8]) ->
     next
 }
 
-pub fn header_map(n: u32, e: u32, x: u32, a: u32, c: u32, r: u32, w: u32) -> u32
+fn header_map(n: u32, e: u32, x: u32, a: u32, c: u32, r: u32, w: u32) -> u32
     ensures { λ m. ⌜ (m ≡ headerMap n e x a c r w) × (m ≤ 127) ⌝ }
 {
     let f1 = flag(0 < n);
@@ -144,7 +144,7 @@ pub fn header_map(n: u32, e: u32, x: u32, a: u32, c: u32, r: u32, w: u32) -> u32
     f1 + f2 * 2 + f3 * 4 + f4 * 8 + f5 * 16 + f6 * 32 + f7 * 64
 }
 
-pub fn put_header(out: &mut [u8], n: u32, e: u32, x: u32, a: u32, c: u32, r: u32, w: u32) -> usize
+fn put_header(out: &mut [u8], n: u32, e: u32, x: u32, a: u32, c: u32, r: u32, w: u32) -> usize
     ensures { λ q. ⌜ Put (now (out .entry)) (now (out .exit)) 0 q (encHeader n e x a c r w) × (q ≤ 29) ⌝ }
 {
     let m = header_map(n, e, x, a, c, r, w);
@@ -170,9 +170,9 @@ pub fn put_tables(
     root: u32,
     space: u32,
 ) -> usize
-    requires { ⌜ tablesFault (tablesIn (now nodes) (now edges) (now choices) (now texts) (now bytes) annotations root space) ≡ 0 ⌝ }
+    requires { ⌜ tablesFault (tables (now nodes) (now edges) (now choices) (now texts) (now bytes) annotations root space) ≡ 0 ⌝ }
     requires { ⌜ length (now bytes) ≡ lengths (now texts) ⌝ }
-    ensures { λ r. ⌜ Put (now (out .entry)) (now (out .exit)) 0 r (encode (tablesIn (now (nodes .entry)) (now (edges .entry)) (now (choices .entry)) (now (texts .entry)) (now (bytes .entry)) annotations root space)) × (r ≤ 339997) ⌝ }
+    ensures { λ r. ⌜ Put (now (out .entry)) (now (out .exit)) 0 r (encode (tables (now (nodes .entry)) (now (edges .entry)) (now (choices .entry)) (now (texts .entry)) (now (bytes .entry)) annotations root space)) × (r ≤ 339997) ⌝ }
 {
     let n = nodes.len() as u32;
     let e = edges.len() as u32;

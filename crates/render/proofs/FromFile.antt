@@ -27,7 +27,7 @@ use Rattle.render.specs.declared.page.Rendered.{Rendered}
 use Rattle.render.specs.declared.order.Lengths.{Lengths}
 use Rattle.render.specs.Order.{InOrder}
 use Rattle.render.specs.Rendered.{meant}
-use Rattle.render.specs.Call.{settings, Readied, Laid, held, Holding}
+use Rattle.render.specs.Call.{settings, Readied, Laid, tables-held, Holding}
 use Rattle.render.proofs.Readiness.{file-readied}
 
 -- what an acceptance leaves
@@ -64,13 +64,13 @@ module _ (s : List ℕ) (lent : Type 0) (nodes : List (List ℕ)) (edges choices
   holding n z g e = let l = left n g e in subst (λ (k : Counts). Holding k nodes edges choices texts bytes) (l .counts) (held-ready z (l .means) (l .holds))
 
   -- the tables that the reader leaves are those of the file
-  pub held-tables : {a : FileAnswer} (n : Counts) → Reads s lent nodes edges choices texts bytes a → a ≡ Accepted n → held n nodes edges choices texts bytes ≡ tablesOf s
-  held-tables n g e = let l = left n g e in subst (λ (k : Counts). held k nodes edges choices texts bytes ≡ tablesOf s) (l .counts) (held-is s nodes edges choices texts bytes (l .holds))
+  pub held-tables : {a : FileAnswer} (n : Counts) → Reads s lent nodes edges choices texts bytes a → a ≡ Accepted n → tables-held n nodes edges choices texts bytes ≡ tablesOf s
+  held-tables n g e = let l = left n g e in subst (λ (k : Counts). tables-held k nodes edges choices texts bytes ≡ tablesOf s) (l .counts) (held-is s nodes edges choices texts bytes (l .holds))
 
   module _ {o : RenderOptions} {b : Bounds} {l : Lengths} (i : InOrder o b l) {a : FileAnswer} (g : Reads s lent nodes edges choices texts bytes a) where
     -- an accepted file: the answer of solver and materializer on what the reader left
     pub laid-answers : (n : Counts) → a ≡ Accepted n → {output₀ output : List ℕ} {rows₀ rows : List Row} {r : Rendered}
-        → Laid b (rules o) (prepared (held n nodes edges choices texts bytes)) output₀ output rows₀ rows r
+        → Laid b (rules o) (prepared (tables-held n nodes edges choices texts bytes)) output₀ output rows₀ rows r
         → Answers (InOrder o b l) s (settings o) (limits b) (meant r output rows)
     laid-answers n e d =
         subst (λ (x : Answer). Answers (InOrder o b l) s (settings o) (limits b) x)

@@ -1,17 +1,14 @@
 -- Laws for the whole call: from the right answer, and what stands in output and span rows, all that a call promises.
 use mathlib.Core.Path.{_≡_, refl, subst}
-use mathlib.Core.Bool.{Bool, true, false}
 use mathlib.Core.List.{List}
 use Prim.Native.Nat.{ℕ, _≤_}
 use native.Mathlib.Omega.{arith}
-use lib.Dec.{eqb}
-use borrow.Author.Tests.{eqb-true, eqb-false}
 use Rattle.encode.specs.Fields.{Bytes}
 use Rattle.form.specs.declared.fill.Counts.{Counts}
 use Rattle.prepare.specs.declared.read.Answer.{Answer as FileAnswer}
 use Rattle.prepare.specs.declared.read.Answer.the-variants.{Accepted, Refused as FileRefused}
 use Rattle.prepare.specs.File.{Lent, Reads}
-use Rattle.memo.specs.Sizes.{SlotsFor}
+use Rattle.memo.proofs.Uses.{slots-enough}
 use Rattle.machine.specs.Events.{no-counts}
 use Rattle.machine.specs.Answer.{Answer, refused}
 use Rattle.answer.specs.Answer.{Answers}
@@ -27,22 +24,14 @@ use Rattle.render.specs.declared.page.Rendered.the-variants.{Refused}
 use Rattle.render.specs.declared.order.Lengths.{Lengths}
 use Rattle.render.specs.Order.{TablesLent, MemoLent, InOrder}
 use Rattle.render.specs.Rendered.{meant, Stands}
-use Rattle.render.specs.Call.{settings, Rendering, Laid, held}
+use Rattle.render.specs.Call.{settings, Rendering, Laid, tables-held}
 use Rattle.render.proofs.Pages.{unaltered}
 use Rattle.render.proofs.FromFile.{laid-answers, refused-answers, order-answers}
 
 -- ---- what 1 asks for is what the parts ask for
 
--- as many slots as there are entries, or more
-slots-enough : (e s : ℕ) → SlotsFor e s → e ≤ s
-slots-enough e s h = go (eqb e 0) refl
-  where
-    go : (t : Bool) → eqb e 0 ≡ t → e ≤ s
-    go true q = let z = eqb-true e 0 q in omega (arith, z)
-    go false q = let r = h .some (eqb-false e 0 q) .room in omega (arith, r)
-
 pub memo-room : {b : Bounds} {l : Lengths} → MemoLent b l → b .memo ≤ l .slots
-memo-room {b} {l} h = let r = slots-enough (b .memo) (h .slots-for) (h .is) in omega (arith, r, h .slots)
+memo-room {b} {l} h = slots-enough (h .is) (l .slots) (h .slots)
 
 pub tables-lent : {nodes edges choices texts bytes : ℕ} {l : Lengths} → TablesLent l → l .nodes ≡ nodes → l .edges ≡ edges → l .choices ≡ choices → l .texts ≡ texts → l .bytes ≡ bytes → Lent nodes edges choices texts bytes
 tables-lent h a b c d e = record {
@@ -92,7 +81,7 @@ module _ (file : List ℕ) (o : RenderOptions) (b : Bounds) (l : Lengths) (out�
     file-rendering h n e p q = refused-rendering n (refused-answers file lent nodes edges choices texts bytes i g h n e) p q
 
     -- a file that it accepts
-    pub laid-rendering : (n : Counts) → a ≡ Accepted n → (r : Rendered) → Laid b (rules o) (prepared (held n nodes edges choices texts bytes)) out₀ out rows₀ rows r → Rendering file o b l out₀ out rows₀ rows r
+    pub laid-rendering : (n : Counts) → a ≡ Accepted n → (r : Rendered) → Laid b (rules o) (prepared (tables-held n nodes edges choices texts bytes)) out₀ out rows₀ rows r → Rendering file o b l out₀ out rows₀ rows r
     laid-rendering n e r d = rendering r (laid-answers file lent nodes edges choices texts bytes i g n e d) (d .stands)
 
   -- a call that is not in order

@@ -2,10 +2,11 @@
 use mathlib.Core.Path.{_≡_}
 use mathlib.Core.List.{List, []}
 use Prim.Native.Nat.{ℕ, _≤_}
-use lib.ListN.{length, take}
+use lib.ListN.{length}
 use Rattle.tables.specs.Tables.{Tables}
 use Rattle.layout.specs.Rules.{Rules}
 use Rattle.form.specs.declared.fill.Counts.{Counts}
+pub use Rattle.form.specs.Form.{tables-held}
 use Rattle.rules.specs.Judged.{tables}
 use Rattle.machine.specs.Events.{Counts as Tally}
 use Rattle.machine.specs.Model.{Prepared}
@@ -54,19 +55,14 @@ pub record Laid (b : Bounds) (R : Rules) (P : Prepared) (output₀ output : List
   pub is : meant r output rows ≡ answer R P (limits b)
   pub stands : Stands r output₀ output rows₀ rows
 
--- the tables that lent memory holds up to the counts
-abbrev pub held : Counts → List (List ℕ) → List ℕ → List ℕ → List (List ℕ) → List ℕ → Tables
-held n nodes edges choices texts bytes =
-    tables (take (n .nodes) nodes) (take (n .edges) edges) (take (n .choices) choices) (take (n .texts) texts) (take (n .bytes) bytes) (n .annotations) (n .root .0) (n .space .0)
-
--- and that it is long enough for them
+-- lent memory is long enough for the tables that it holds
 pub record Holding (n : Counts) (nodes : List (List ℕ)) (edges choices : List ℕ) (texts : List (List ℕ)) (bytes : List ℕ) : Type 0 where
   pub nodes-in : n .nodes ≤ length nodes
   pub edges-in : n .edges ≤ length edges
   pub choices-in : n .choices ≤ length choices
   pub texts-in : n .texts ≤ length texts
   pub bytes-in : n .bytes ≤ length bytes
-  pub readied : Readied (held n nodes edges choices texts bytes)
+  pub readied : Readied (tables-held n nodes edges choices texts bytes)
 
 abbrev pub lengths : List (List ℕ) → List ℕ → List ℕ → List (List ℕ) → List ℕ → List Row → List Row → List Row → List ℕ → List Row → List Row → List ℕ → List Row → List ℕ → List ℕ → List ℕ → List Row → Lengths
 lengths nodes edges choices texts bytes tasks results pending slots entries kept frontier plans stack held output rows = record {

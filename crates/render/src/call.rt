@@ -8,7 +8,7 @@ ghost use Rattle.execute.specs.Turn.{Room};
 ghost use Rattle.solve.specs.Accepted.{MemoRoom};
 ghost use Rattle.render.specs.Order.{InOrder};
 ghost use Rattle.render.specs.Rendered.{PageRoom};
-ghost use Rattle.render.specs.Call.{Rendering, Readied, Laid, Holding, held as heldTables, lengths};
+ghost use Rattle.render.specs.Call.{Rendering, Readied, Laid, Holding, tables-held, lengths};
 use crate::order::Lengths;
 use crate::order::in_order;
 use crate::page::Rendered;
@@ -104,7 +104,7 @@ fn lay_out_held(
     rows: &mut [[u64; 4]],
 ) -> Rendered
     requires { ⌜ Room b (now tasks) (now results) (now pending) (now frontier) (now kept) (now plans) × MemoRoom b (now slots) (now entries) × Holding n (now nodes) (now edges) (now choices) (now texts) (now bytes) × PageRoom b (now stack) (now held) (now output) (now rows) ⌝ }
-    ensures { λ r. ⌜ Laid b (rules options) (prepared (heldTables n (now (nodes .entry)) (now (edges .entry)) (now (choices .entry)) (now (texts .entry)) (now (bytes .entry)))) (now (output .entry)) (now (output .exit)) (now (rows .entry)) (now (rows .exit)) r ⌝ }
+    ensures { λ r. ⌜ Laid b (rules options) (prepared (tables-held n (now (nodes .entry)) (now (edges .entry)) (now (choices .entry)) (now (texts .entry)) (now (bytes .entry)))) (now (output .entry)) (now (output .exit)) (now (rows .entry)) (now (rows .exit)) r ⌝ }
 {
     let e0 = n.nodes as usize;
     let e1 = n.edges as usize;

@@ -1,4 +1,5 @@
 pub mod Tells
+pub mod Rows
 pub mod ByKind
 pub mod Spaces
 pub mod Enumerated

@@ -5,17 +5,15 @@ use mathlib.Core.List.{List}
 use Prim.Native.Nat.{ℕ, zero, suc, _+_, _≤_, _<_, max}
 use native.Mathlib.Omega.{arith}
 use native.Mathlib.Decide.{ℕ-discrete, decLt}
-use lib.ListN.{length, length-take, length-drop}
+use lib.ListN.{length}
 use lib.Dec.{ltb}
 use borrow.Author.Tests.{lt-ltb, le-ltb}
-use Rattle.tables.specs.Tables.{Tables, node-row, choice-length, skipped}
-use Rattle.rules.specs.Choice.{two, choice-list}
+use Rattle.tables.specs.Tables.{Tables}
 use Rattle.rules.specs.Circle.{Refers, Circle}
 use Rattle.rules.specs.Descent.{Closed, Ends, ends, Ranked}
-use Rattle.rules.specs.Search.{pick, degree, target, Cut}
+use Rattle.rules.specs.Search.{pick, degree, target}
 use Rattle.rules.specs.Judged.{Accepted}
 use Rattle.rules.proofs.Enumerated.{nth-of, nth-refers, closed}
-use Rattle.rules.proofs.Orders.{cut-length, comes-cut}
 use Rattle.rules.proofs.Decided.{all-end}
 
 top : (d : ℕ) → d < suc d
@@ -159,19 +157,5 @@ module _ (t : Tables) (a : Accepted t) where
   pub accepted-closed : Closed (t .nodes) (t .edges)
   accepted-closed = closed t (a .references)
 
-  pub accepted-ends : (i : ℕ) → i < length (t .nodes) → Ends (t .nodes) (t .edges) i
-  accepted-ends = all-end (t .nodes) (t .edges) accepted-closed (a .no-circle)
-
   pub accepted-ranked : Ranked (t .nodes) (t .edges)
   accepted-ranked = ranked (t .nodes) (t .edges) accepted-closed (a .no-circle)
-
-  -- the choice list of a node from left to right, and its length
-  module _ (i : ℕ) (h : i < length (t .nodes)) (ne : choice-length (node-row t i) ≡ 0 → ⊥) where
-    pub accepted-cut : Cut (t .nodes) (two (node-row t i)) (choice-list (t .choices) (node-row t i)) (skipped (node-row t i))
-    accepted-cut = comes-cut (a .lists .each i h ne)
-
-    pub accepted-length : choice-length (node-row t i) ≡ skipped (node-row t i) + 2
-    accepted-length =
-        let r = a .references .nodes .each i h .choice-range ne in
-        let l : length (choice-list (t .choices) (node-row t i)) ≡ choice-length (node-row t i) = simp (length-take, length-drop) (omega arith) in
-        omega (arith, l, cut-length accepted-cut)

@@ -3,25 +3,12 @@ use Prim.Native.Nat.{ℕ, _≤_}
 use mathlib.Core.List.{List}
 use lib.ListN.{length, take}
 use Rattle.tables.specs.Tables.{Tables}
+pub use Rattle.tables.specs.Tables.{tables}
 use Rattle.rules.specs.declared.Counts.{Counts}
 use Rattle.rules.specs.References.{References}
 use Rattle.rules.specs.Texts.{Inside, TextsOk, SpaceOk}
 use Rattle.rules.specs.Circle.{Circle}
 use Rattle.rules.specs.Choice.{ListsRight}
-
--- the tables as they stand in memory
-abbrev pub tables : List (List ℕ) → List ℕ → List ℕ → List (List ℕ) → List ℕ → ℕ → ℕ → ℕ → Tables
-tables nodes edges choices texts bytes annotations root space =
-    record {
-      nodes = nodes;
-      edges = edges;
-      choices = choices;
-      texts = texts;
-      bytes = bytes;
-      annotations = annotations;
-      root = root;
-      space = space;
-    }
 
 -- the tables in lent memory that may be longer: the first rows of each, as many as are counted, and the first `total` bytes
 abbrev pub front : Counts → ℕ → List (List ℕ) → List ℕ → List ℕ → List (List ℕ) → List ℕ → ℕ → ℕ → Tables

@@ -1,4 +1,5 @@
-// Sequences (laidout's ContinueSequence, CompleteSequenceRight and fill_boundary): each left candidate is followed by the candidates of the next child at its column.
+// What the tasks of a sequence share (the loops in laidout's CompleteSequenceRight and fill_boundary, and the tasks that ContinueSequence pushes):
+// a left candidate joined with each of those that follow it, and the next child evaluated at the column where it ends.
 ghost use mathlib.Core.Path.{_≡_};
 ghost use mathlib.Core.List.{List, [], _∷_};
 ghost use Prim.Native.Nat.{ℕ, _+_, _≤_, _<_};

@@ -1,4 +1,4 @@
--- The machine's plans name earlier plans, and texts that are there.
+-- The theorem of Numbered: each step keeps that plans name earlier plans, and texts that are there.
 use mathlib.Core.Path.{_≡_, refl, sym, ap, _∙_, subst}
 use mathlib.Core.Bool.{Bool, true, false, not, cond}
 use mathlib.Core.Option.{Option, none, some}

@@ -1,4 +1,4 @@
-// The steps of a Seq or a Fill (laidout's ContinueSequence and CompleteSequenceRight).
+// A Seq or a Fill goes on with its next child (laidout's ContinueSequence and fill_boundary). Crate right has CompleteSequenceRight.
 // `scratch` holds the slots of the frontier that is being built, `slots` and `entries` the memo.
 ghost use mathlib.Core.Path.{_≡_};
 ghost use mathlib.Core.Bool.{true};

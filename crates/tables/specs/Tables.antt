@@ -22,6 +22,20 @@ pub record Tables : Type 0 where
   -- the space text
   pub space : ℕ
 
+-- tables by their parts
+abbrev pub tables : List (List ℕ) → List ℕ → List ℕ → List (List ℕ) → List ℕ → ℕ → ℕ → ℕ → Tables
+tables nodes edges choices texts bytes annotations root space =
+    record {
+      nodes = nodes;
+      edges = edges;
+      choices = choices;
+      texts = texts;
+      bytes = bytes;
+      annotations = annotations;
+      root = root;
+      space = space;
+    }
+
 -- the fields of a node's row
 abbrev pub kind : List ℕ → ℕ
 kind row = getD row 0 0

@@ -203,7 +203,7 @@ pub fn row_task(row: [u32; 9]) -> ExactTask
 }
 
 // The lower half of a word.
-fn narrow(word: u64) -> u32
+pub fn narrow(word: u64) -> u32
     ensures { λ r. ⌜ r ≡ word % 2 ^ 32 ⌝ }
 {
     (word % 4294967296) as u32

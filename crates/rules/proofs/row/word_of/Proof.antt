@@ -1,7 +1,5 @@
 use denote.Ref.{now}
-use mathlib.Core.Path.{sym, ap}
-use mathlib.Core.List.{[]}
-use lib.ListN.{getD, List·getD-eq-default}
+use Rattle.rules.proofs.Rows.{past-end}
 use borrow.Author.Needs.{needs}
 use Rattle.rules.proofs.row.word_of.Statement.{statement}
 use Rattle.rules.proofs.row.word_of.Tie as tie
@@ -22,7 +20,7 @@ returns : tie.Need-returns
 returns c = search needs
 
 returns-2 : tie.Need-returns-2
-returns-2 c = sym (ap (λ l. getD l (c .before .args .k) 0) (List·getD-eq-default (now (c .before .args .nodes)) [] (c .if1 .left)))
+returns-2 c = past-end (now (c .before .args .nodes)) _ _ (c .if1 .left)
 
 pub word-of-spec : {M : Type 1} → statement M
 word-of-spec =
