@@ -126,6 +126,17 @@ impl Comparer {
         modelled
     }
 
+    /// The model's reader, held to ours.
+    pub fn read(&mut self, file: &[u8]) -> Result<Tables, u32> {
+        let modelled = model::file::read(file);
+        let ours = self.ours.as_mut().and_then(|ours| ours.read(file));
+        if ours.as_ref().is_some_and(|ours| *ours != modelled) {
+            self.tally.differences += 1;
+            println!("DIFFERENCE: ours, model: the reader\n{}\n{ours:?}\n{modelled:?}\n", to_hex(file));
+        }
+        modelled
+    }
+
     /// The model's program `page`, held to ours.
     pub fn page(&mut self, call: &Call) {
         let Some(ours) = &mut self.ours else { return };

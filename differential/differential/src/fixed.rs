@@ -249,6 +249,19 @@ pub fn cases() -> Vec<Case> {
     add("22: depth before visit", mark(), usual, Sizes { depth: 0, visit: 1, ..page }, none, Refused(19, 1, None));
     add("22: visit", mark(), usual, Sizes { visit: 1, ..page }, none, Refused(18, 2, None));
     add("22: a newline byte by byte", line(), usual, Sizes { output: 2, ..page }, none, Refused(20, 3, None));
+    add(
+        "22: an empty text needs nothing",
+        {
+            let mut b = Build::new();
+            b.text("");
+            b.file()
+        },
+        usual,
+        Sizes { output: 0, ..page },
+        none,
+        Page("", 0, 0, Some(2)),
+    );
+    add("22: visit limit 1", ab(), usual, page, Limits { visits: 1, ..none }, Page("ab", 0, 0, Some(2)));
     let choice = |first: bool| {
         let mut b = Build::new();
         let empty = b.node(kind::EMPTY, 0, 0);

@@ -2,8 +2,12 @@
 //! document of that number again).
 //! `differential exhaustive --nodes N`: all documents of up to N nodes over a small alphabet, and all files one byte away from a few.
 //! `differential report --rows N --seed S`: prints the file of a report of N rows, made by prepare.rs, in hexadecimal.
+//! `differential bench`: times of ours and of the reference on the same files; `--part P --rows N --width W --times T` does one part of the
+//! work T times and prints nothing, for a count of instructions (see bench.rs).
 //! `differential sample --seed S` and `differential sample-page --seed S`: print a frozen sample (see sample.rs).
 
+#[cfg(feature = "ours")]
+mod bench;
 mod compare;
 mod exhaustive;
 mod fixed;
@@ -40,6 +44,14 @@ fn run() -> i32 {
             let report = generate::source::report(&mut Rng::new(seed), value("--rows").unwrap_or(200) as usize);
             let tables = reference::access::tables(&report.prepare().expect("a report can be prepared"));
             println!("{}", common::to_hex(&model::file::encode(&tables).expect("within the file's limits")));
+            return 0;
+        }
+        #[cfg(feature = "ours")]
+        Some("bench") => {
+            match value("--part") {
+                Some(part) => bench::part(part, value("--rows"), value("--width"), value("--times").unwrap_or(1)),
+                None => bench::table(),
+            }
             return 0;
         }
         Some("sample-page") => {
@@ -104,6 +116,9 @@ fn report(comparer: &Comparer, seed: u64, start: Instant) {
         tally.by_reference,
         if comparer.ours.is_some() { tally.cases } else { 0 }
     );
+    if let Some(ours) = &comparer.ours {
+        println!("{}", ours.tally());
+    }
     let answers: Vec<String> = (0..tally.answers.len())
         .filter(|number| tally.answers[*number] > 0)
         .map(|number| {
@@ -196,7 +211,7 @@ fn document(comparer: &mut Comparer, seed: u64, index: u64) {
     let settings = generate::settings(rng, profile.is_some_and(Profile::extreme));
     let file = model::file::encode(&tables).expect("generated tables have the form");
     let call = Call { file: &file, settings, sizes: PROBE, limits: LIMITS };
-    match model::file::read(&file) {
+    match comparer.read(&file) {
         Ok(read) if read == tables => {}
         other => comparer.difference("read after write", &call, &format!("{other:?}"), &format!("{tables:?}")),
     }
@@ -305,7 +320,7 @@ fn refused_alike(comparer: &mut Comparer, tables: &Tables) {
 
 /// A damaged file is refused, or it is another accepted file: then it is the one that its tables write, and the reference answers.
 fn damaged_file(comparer: &mut Comparer, call: &Call) {
-    let read = model::file::read(call.file);
+    let read = comparer.read(call.file);
     let right = call.settings.width > 0 && call.settings.policy < 2;
     let (Ok(tables), true) = (&read, right) else {
         let _ = comparer.call(call, None);

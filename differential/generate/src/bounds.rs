@@ -34,3 +34,27 @@ pub fn tables(rng: &mut Rng) -> Tables {
     }
     out
 }
+
+/// Accepted tables with every count at its limit: a chain of Choices as deep as nodes go, nearly all with a list.
+pub fn largest() -> Tables {
+    let mut out = Tables { annotations: limit::ANNOTATIONS, root: limit::NODES - 1, ..Tables::default() };
+    let space = Text { width: 1, bytes: vec![32] };
+    let text = |length: usize| Text { width: 1, bytes: vec![b'x'; length] };
+    out.texts = vec![text(16); limit::TEXTS as usize];
+    out.texts[0] = space;
+    out.texts[1] = text(31);
+    out.edges = vec![1; limit::EDGES as usize];
+    out.nodes = vec![Node::default(), Node::of(kind::TEXT, 1, 0)];
+    for index in 2..limit::NODES {
+        let mut node = Node { flat: Some(0), ..Node::of(kind::CHOICE, 1, index - 1) };
+        if index > 2 {
+            node.choice_start = out.choice_edges.len() as u32;
+            node.choice_length = 3;
+            node.skipped = 1;
+            out.choice_edges.extend([1, 1, index - 2]);
+        }
+        out.nodes.push(node);
+    }
+    out.choice_edges.resize(limit::CHOICE_EDGES as usize, 1);
+    out
+}

@@ -81,3 +81,10 @@ pub fn report(rng: &mut Rng, rows: usize) -> Doc<u32> {
     }
     Doc::new(Node::Seq(lines))
 }
+
+/// A paragraph: a Fill of words.
+pub fn paragraph(rng: &mut Rng, words: usize) -> Doc<u32> {
+    let list = ["a", "few", "words", "to", "fill", "the", "lines", "with", "paragraph", "of"];
+    let words = (0..words).map(|_| Doc::new(Node::Text(TextRun::trusted_ascii(rng.pick(&list)))));
+    Doc::new(Node::Fill(words.collect()))
+}

@@ -8,7 +8,7 @@ use common::{kind, Answer, Counts, Page, Refusal, Settings, Sizes, Span, Tables,
 use crate::doc::FlatAlternative;
 use crate::kernel::access::{stats_at_domain_violation, visits};
 use crate::kernel::{
-    render_into, ExactSolveCapacity, FastSolveCapacity, IndentPolicy, LayoutStrategy, MaterializeCapacity,
+    render_into, solve_into, ExactSolveCapacity, FastSolveCapacity, IndentPolicy, LayoutStrategy, MaterializeCapacity,
     RenderCapacity, RenderError, RenderOptions, RenderWorkspace, SolveStats, VisitCapacity, WorkspaceResource,
 };
 use crate::prepare::{
@@ -163,6 +163,17 @@ fn number(resource: WorkspaceResource) -> u32 {
     }
 }
 
+fn options(settings: &Settings) -> RenderOptions {
+    let policy = match settings.policy {
+        0 => IndentPolicy::Preserve,
+        _ => IndentPolicy::ClampToWidthMinusOne,
+    };
+    RenderOptions::new(NonZeroU32::new(settings.width).expect("a width"))
+        .with_newline_cost(settings.newline_cost)
+        .with_strategy(LayoutStrategy::Exact)
+        .with_indent_policy(policy)
+}
+
 fn workspace(sizes: &Sizes) -> RenderWorkspace {
     let capacity = RenderCapacity::new(
         FastSolveCapacity::new(0),
@@ -182,14 +193,7 @@ fn workspace(sizes: &Sizes) -> RenderWorkspace {
 /// `ExactSolver::solve`, then `materialize`, on a workspace of these sizes in `WorkspaceMode::Fixed`. The reference has no work and no
 /// visit limit and keeps no count of visits: `visits` is 0 in a refusal.
 pub fn render(document: &Document, settings: &Settings, sizes: &Sizes) -> Answer {
-    let policy = match settings.policy {
-        0 => IndentPolicy::Preserve,
-        _ => IndentPolicy::ClampToWidthMinusOne,
-    };
-    let options = RenderOptions::new(NonZeroU32::new(settings.width).expect("a width"))
-        .with_newline_cost(settings.newline_cost)
-        .with_strategy(LayoutStrategy::Exact)
-        .with_indent_policy(policy);
+    let options = options(settings);
     let mut space = workspace(sizes);
     let error = match render_into(&document.prepared, options, &mut space) {
         Ok(rendered) => {
@@ -224,6 +228,30 @@ pub fn render(document: &Document, settings: &Settings, sizes: &Sizes) -> Answer
         }
         other => panic!("the reference cannot answer so: {other:?}"),
     })
+}
+
+/// For measuring: a document with a workspace that is set aside once.
+pub struct Bench<'a> {
+    document: &'a Document,
+    options: RenderOptions,
+    space: RenderWorkspace,
+}
+
+impl Bench<'_> {
+    pub fn new<'a>(document: &'a Document, settings: &Settings, sizes: &Sizes) -> Bench<'a> {
+        Bench { document, options: options(settings), space: workspace(sizes) }
+    }
+
+    /// The solver alone: the work.
+    pub fn solve(&mut self) -> u64 {
+        let layout = solve_into(&self.document.prepared, self.options, &mut self.space).expect("a layout");
+        layout.stats().work_items
+    }
+
+    /// Solver and materializer: the length of the page.
+    pub fn render(&mut self) -> usize {
+        render_into(&self.document.prepared, self.options, &mut self.space).expect("a page").text().len()
+    }
 }
 
 /// Takes from the model's answer what the reference cannot show: visits at a refusal; the bytes above 127 where the texts are not UTF-8

@@ -1,0 +1,193 @@
+//! Calls on the caller's own memory. They are safe: a Rust slice is what the library's parameter types ask for, and no call has a
+//! condition beyond its types.
+
+use crate::raw;
+use crate::{Counts, Limits, Refusal, Settings, Sizes};
+
+/// Where a file's tables are put. At least 4,096 nodes, 16,384 edges, 16,384 choice edges, 4,096 texts and 65,536 bytes.
+pub struct TableMemory<'a> {
+    pub nodes: &'a mut [[u32; 8]],
+    pub edges: &'a mut [u32],
+    pub choices: &'a mut [u32],
+    pub texts: &'a mut [[u32; 3]],
+    pub bytes: &'a mut [u8],
+}
+
+/// The working memory of solver and materializer: docs/MEMORY.md says how long each slice is for given sizes.
+pub struct SolverMemory<'a> {
+    pub tasks: &'a mut [[u32; 9]],
+    pub results: &'a mut [[u32; 2]],
+    pub pending: &'a mut [[u64; 7]],
+    pub slots: &'a mut [u64],
+    pub entries: &'a mut [[u64; 6]],
+    pub kept: &'a mut [[u64; 6]],
+    pub frontier: &'a mut [u64],
+    pub plans: &'a mut [[u32; 3]],
+    pub visit: &'a mut [usize],
+    pub held: &'a mut [usize],
+}
+
+/// A page stands in the first `length` bytes of the output, its spans in the first `spans` rows.
+#[derive(Clone, Copy, Debug, Eq, PartialEq)]
+pub struct Rendered {
+    pub length: usize,
+    pub spans: usize,
+    pub overflow: u128,
+    pub burden: u64,
+    pub counts: Counts,
+}
+
+#[allow(clippy::too_many_arguments)]
+pub fn render_lent(
+    file: &[u8],
+    settings: &Settings,
+    sizes: &Sizes,
+    limits: &Limits,
+    tables: TableMemory,
+    solver: SolverMemory,
+    output: &mut [u8],
+    spans: &mut [[u64; 4]],
+) -> Result<Rendered, Refusal> {
+    let mut answer = [0u64; 17];
+    // SAFETY: every pointer and length is that of a live Rust slice or array, and no two that are written overlap.
+    let number = unsafe {
+        raw::gannozhi_render(
+            file.as_ptr(),
+            file.len(),
+            settings.width,
+            settings.newline_cost,
+            settings.policy,
+            &sizes.list(),
+            limits.work,
+            limits.visits,
+            tables.nodes.as_mut_ptr(),
+            tables.nodes.len(),
+            tables.edges.as_mut_ptr(),
+            tables.edges.len(),
+            tables.choices.as_mut_ptr(),
+            tables.choices.len(),
+            tables.texts.as_mut_ptr(),
+            tables.texts.len(),
+            tables.bytes.as_mut_ptr(),
+            tables.bytes.len(),
+            solver.tasks.as_mut_ptr(),
+            solver.tasks.len(),
+            solver.results.as_mut_ptr(),
+            solver.results.len(),
+            solver.pending.as_mut_ptr(),
+            solver.pending.len(),
+            solver.slots.as_mut_ptr(),
+            solver.slots.len(),
+            solver.entries.as_mut_ptr(),
+            solver.entries.len(),
+            solver.kept.as_mut_ptr(),
+            solver.kept.len(),
+            solver.frontier.as_mut_ptr(),
+            solver.frontier.len(),
+            solver.plans.as_mut_ptr(),
+            solver.plans.len(),
+            solver.visit.as_mut_ptr(),
+            solver.visit.len(),
+            solver.held.as_mut_ptr(),
+            solver.held.len(),
+            output.as_mut_ptr(),
+            output.len(),
+            spans.as_mut_ptr(),
+            spans.len(),
+            &mut answer,
+        )
+    };
+    let [_, needed, length, rows, high, low, burden, work, fit_checks, hits, misses, generated, pruned, peak_frontier, memo_entries, plan_nodes, visits] =
+        answer;
+    let counts =
+        Counts { work, fit_checks, hits, misses, generated, pruned, peak_frontier, memo_entries, plan_nodes, visits };
+    if number != 0 {
+        return Err(Refusal { number, needed, counts });
+    }
+    let overflow = u128::from(high) << 64 | u128::from(low);
+    Ok(Rendered { length: length as usize, spans: rows as usize, overflow, burden, counts })
+}
+
+/// How many rows or items of each table a file has, and its root and space text.
+#[derive(Clone, Copy, Debug, Default, Eq, PartialEq)]
+pub struct TableCounts {
+    pub nodes: u32,
+    pub edges: u32,
+    pub choices: u32,
+    pub texts: u32,
+    pub bytes: u32,
+    pub annotations: u32,
+    pub root: u32,
+    pub space: u32,
+}
+
+/// The file's tables, up to the counts; or the number of the refusal (1 to 10).
+pub fn read_lent(file: &[u8], tables: TableMemory) -> Result<TableCounts, u32> {
+    let mut words = [0u32; 8];
+    // SAFETY: as in `render_lent`.
+    let number = unsafe {
+        raw::gannozhi_read(
+            file.as_ptr(),
+            file.len(),
+            tables.nodes.as_mut_ptr(),
+            tables.nodes.len(),
+            tables.edges.as_mut_ptr(),
+            tables.edges.len(),
+            tables.choices.as_mut_ptr(),
+            tables.choices.len(),
+            tables.texts.as_mut_ptr(),
+            tables.texts.len(),
+            tables.bytes.as_mut_ptr(),
+            tables.bytes.len(),
+            &mut words,
+        )
+    };
+    if number != 0 {
+        return Err(number);
+    }
+    let [nodes, edges, choices, texts, bytes, annotations, root, space] = words;
+    Ok(TableCounts { nodes, edges, choices, texts, bytes, annotations, root, space })
+}
+
+/// Tables to be written: each at least as long as its count.
+#[derive(Clone, Copy)]
+pub struct FileTables<'a> {
+    pub counts: TableCounts,
+    pub nodes: &'a [[u32; 8]],
+    pub edges: &'a [u32],
+    pub choices: &'a [u32],
+    pub texts: &'a [[u32; 3]],
+    pub bytes: &'a [u8],
+}
+
+/// How many bytes were written; or the number of the refusal and, for 20, how many bytes the file has.
+pub type Written = Result<usize, (u32, usize)>;
+
+pub fn write_lent(tables: FileTables, out: &mut [u8]) -> Written {
+    let n = tables.counts;
+    let words = [n.nodes, n.edges, n.choices, n.texts, n.bytes, n.annotations, n.root, n.space];
+    let mut size = 0usize;
+    // SAFETY: as in `render_lent`.
+    let number = unsafe {
+        raw::gannozhi_write(
+            &words,
+            tables.nodes.as_ptr(),
+            tables.nodes.len(),
+            tables.edges.as_ptr(),
+            tables.edges.len(),
+            tables.choices.as_ptr(),
+            tables.choices.len(),
+            tables.texts.as_ptr(),
+            tables.texts.len(),
+            tables.bytes.as_ptr(),
+            tables.bytes.len(),
+            out.as_mut_ptr(),
+            out.len(),
+            &mut size,
+        )
+    };
+    match number {
+        0 => Ok(size),
+        number => Err((number, size)),
+    }
+}

@@ -1,0 +1,266 @@
+//! A prepared file's page, by the proved library.
+//!
+//! [`Printer`] owns the memory that a call is lent. [`render_lent`], [`read_lent`] and [`write_lent`] take the caller's own slices: what they
+//! hold does not matter, and where one is too short the library refuses by 1. The library allocates nothing and keeps nothing between calls.
+
+mod lent;
+mod raw;
+
+pub use lent::{
+    read_lent, render_lent, write_lent, FileTables, Rendered, SolverMemory, TableCounts, TableMemory, Written,
+};
+
+/// The settings of a call. A width of 0 and a policy above 1 are refused by 1.
+#[derive(Clone, Copy, Debug, Eq, PartialEq)]
+pub struct Settings {
+    pub width: u32,
+    pub newline_cost: u32,
+    /// 1 lowers an indent to the width less 1 at most; 0 keeps it.
+    pub policy: u32,
+}
+
+/// How many items of each kind a call may use, in the order of the refusals 13 to 21.
+#[derive(Clone, Copy, Debug, Eq, PartialEq)]
+pub struct Sizes {
+    pub stack: u32,
+    pub memo: u32,
+    pub kept: u32,
+    pub frontier: u32,
+    pub plans: u32,
+    pub visit: u32,
+    pub depth: u32,
+    pub output: u32,
+    pub spans: u32,
+}
+
+impl Sizes {
+    /// Those of the program `page`.
+    pub const PAGE: Sizes = Sizes {
+        stack: 512,
+        memo: 1_024,
+        kept: 1_024,
+        frontier: 256,
+        plans: 2_048,
+        visit: 512,
+        depth: 64,
+        output: 32_768,
+        spans: 512,
+    };
+
+    pub fn list(&self) -> [u32; 9] {
+        [self.stack, self.memo, self.kept, self.frontier, self.plans, self.visit, self.depth, self.output, self.spans]
+    }
+}
+
+/// How much work and how many visits a call may take.
+#[derive(Clone, Copy, Debug, Eq, PartialEq)]
+pub struct Limits {
+    pub work: u64,
+    pub visits: u64,
+}
+
+/// What was counted up to the end of the call, or to where it was refused.
+#[derive(Clone, Copy, Debug, Default, Eq, PartialEq)]
+pub struct Counts {
+    pub work: u64,
+    pub fit_checks: u64,
+    pub hits: u64,
+    pub misses: u64,
+    pub generated: u64,
+    pub pruned: u64,
+    pub peak_frontier: u64,
+    pub memo_entries: u64,
+    pub plan_nodes: u64,
+    pub visits: u64,
+}
+
+#[derive(Clone, Copy, Debug, Eq, PartialEq)]
+pub struct Span {
+    pub annotation: u32,
+    /// Where its child's bytes begin and end on the page.
+    pub start: usize,
+    pub end: usize,
+    /// The number of the nearest span around it.
+    pub parent: Option<usize>,
+}
+
+#[derive(Debug)]
+pub struct Page<'a> {
+    pub bytes: &'a [u8],
+    rows: &'a [[u64; 4]],
+    pub overflow: u128,
+    pub burden: u64,
+    pub counts: Counts,
+}
+
+impl Page<'_> {
+    pub fn spans(&self) -> impl ExactSizeIterator<Item = Span> + '_ {
+        self.rows.iter().map(|row| span(*row))
+    }
+}
+
+/// A span as a row of words has it.
+pub fn span(row: [u64; 4]) -> Span {
+    Span {
+        annotation: row[0] as u32,
+        start: row[1] as usize,
+        end: row[2] as usize,
+        parent: row[3].checked_sub(1).map(|parent| parent as usize),
+    }
+}
+
+/// Why there is no page: the number of the refusal, the size that is needed (13 to 21; else 0), and the counts.
+#[derive(Clone, Copy, Debug, Eq, PartialEq)]
+pub struct Refusal {
+    pub number: u32,
+    pub needed: u64,
+    pub counts: Counts,
+}
+
+impl Refusal {
+    /// The refusal's word in the rule.
+    pub fn word(&self) -> &'static str {
+        const WORDS: [&str; 22] = [
+            "order",
+            "short",
+            "form",
+            "limit",
+            "surplus",
+            "reference",
+            "text",
+            "space",
+            "circle",
+            "list",
+            "domain",
+            "work",
+            "stack",
+            "memo",
+            "kept",
+            "frontier",
+            "plans",
+            "visit",
+            "depth",
+            "output",
+            "spans",
+            "visits",
+        ];
+        WORDS.get((self.number as usize).wrapping_sub(1)).unwrap_or(&"?")
+    }
+}
+
+impl std::fmt::Display for Refusal {
+    fn fmt(&self, f: &mut std::fmt::Formatter) -> std::fmt::Result {
+        write!(f, "refused {} ({})", self.number, self.word())?;
+        match self.needed {
+            0 => Ok(()),
+            needed => write!(f, ", needed {needed}"),
+        }
+    }
+}
+
+impl std::error::Error for Refusal {}
+
+/// Memory for calls of given sizes.
+pub struct Printer {
+    sizes: Sizes,
+    nodes: Vec<[u32; 8]>,
+    edges: Vec<u32>,
+    choices: Vec<u32>,
+    texts: Vec<[u32; 3]>,
+    bytes: Vec<u8>,
+    tasks: Vec<[u32; 9]>,
+    results: Vec<[u32; 2]>,
+    pending: Vec<[u64; 7]>,
+    slots: Vec<u64>,
+    entries: Vec<[u64; 6]>,
+    kept: Vec<[u64; 6]>,
+    frontier: Vec<u64>,
+    plans: Vec<[u32; 3]>,
+    visit: Vec<usize>,
+    held: Vec<usize>,
+    output: Vec<u8>,
+    spans: Vec<[u64; 4]>,
+}
+
+impl Printer {
+    pub fn new(sizes: Sizes) -> Printer {
+        Printer {
+            sizes,
+            nodes: vec![[0; 8]; 4_096],
+            edges: vec![0; 16_384],
+            choices: vec![0; 16_384],
+            texts: vec![[0; 3]; 4_096],
+            bytes: vec![0; 65_536],
+            tasks: vec![[0; 9]; sizes.stack as usize],
+            results: vec![[0; 2]; sizes.stack as usize],
+            pending: vec![[0; 7]; sizes.stack as usize],
+            slots: vec![0; memo_slots_for(sizes.memo)],
+            entries: vec![[0; 6]; sizes.memo as usize],
+            kept: vec![[0; 6]; sizes.kept as usize],
+            frontier: vec![0; sizes.frontier as usize * 14],
+            plans: vec![[0; 3]; sizes.plans as usize],
+            visit: vec![0; sizes.visit as usize],
+            held: vec![0; sizes.depth as usize],
+            output: vec![0; sizes.output as usize],
+            spans: vec![[0; 4]; sizes.spans as usize],
+        }
+    }
+
+    pub fn sizes(&self) -> &Sizes {
+        &self.sizes
+    }
+
+    /// The file is read into the printer's tables; only their counts are handed out.
+    pub fn read(&mut self, file: &[u8]) -> Result<TableCounts, u32> {
+        let tables = TableMemory {
+            nodes: &mut self.nodes,
+            edges: &mut self.edges,
+            choices: &mut self.choices,
+            texts: &mut self.texts,
+            bytes: &mut self.bytes,
+        };
+        read_lent(file, tables)
+    }
+
+    pub fn render(&mut self, file: &[u8], settings: &Settings, limits: &Limits) -> Result<Page<'_>, Refusal> {
+        let tables = TableMemory {
+            nodes: &mut self.nodes,
+            edges: &mut self.edges,
+            choices: &mut self.choices,
+            texts: &mut self.texts,
+            bytes: &mut self.bytes,
+        };
+        let solver = SolverMemory {
+            tasks: &mut self.tasks,
+            results: &mut self.results,
+            pending: &mut self.pending,
+            slots: &mut self.slots,
+            entries: &mut self.entries,
+            kept: &mut self.kept,
+            frontier: &mut self.frontier,
+            plans: &mut self.plans,
+            visit: &mut self.visit,
+            held: &mut self.held,
+        };
+        let done = render_lent(file, settings, &self.sizes, limits, tables, solver, &mut self.output, &mut self.spans)?;
+        Ok(Page {
+            bytes: &self.output[..done.length],
+            rows: &self.spans[..done.spans],
+            overflow: done.overflow,
+            burden: done.burden,
+            counts: done.counts,
+        })
+    }
+}
+
+/// How many words the memo's index has for so many entries.
+pub fn memo_slots_for(entries: u32) -> usize {
+    if entries == 0 {
+        return 0;
+    }
+    let mut slots = 8usize;
+    while slots * 7 / 10 < entries as usize {
+        slots *= 2;
+    }
+    slots
+}

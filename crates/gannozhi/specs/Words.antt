@@ -1,0 +1,123 @@
+-- Which word is what where an answer is handed to another language.
+use mathlib.Core.Path.{_≡_, subst}
+use mathlib.Core.List.{List, [], _∷_}
+use Prim.Native.Nat.{ℕ, _≤_}
+use lib.ListN.{getD}
+use Rattle.stats.specs.declared.SolveStats.{SolveStats}
+use Rattle.workspace.specs.declared.Bounds.{Bounds}
+use Rattle.workspace.specs.declared.RenderOptions.{RenderOptions}
+use Rattle.form.specs.declared.fill.Counts.{Counts}
+use Rattle.prepare.specs.declared.read.Answer.{Answer}
+use Rattle.prepare.specs.declared.read.Answer.the-variants.{Accepted, Refused as Ill}
+use Rattle.prepare.specs.declared.write.Outcome.{Outcome}
+use Rattle.prepare.specs.declared.write.Outcome.the-variants.{Written, Refused as Unwritten}
+use Rattle.prepare.specs.File.{Reads}
+use Rattle.prepare.specs.Writing.{Writes}
+use Rattle.tables.specs.Tables.{Tables}
+use Rattle.materialize.specs.Rows.{Row}
+use Rattle.render.specs.declared.page.Rendered.{Rendered}
+use Rattle.render.specs.declared.page.Rendered.the-variants.{Page, Refused}
+use Rattle.render.specs.declared.order.Lengths.{Lengths}
+use Rattle.machine.specs.Answer.{refused}
+use Rattle.answer.specs.Page.{Promised, right-refusal}
+use Rattle.workspace.specs.Meets.{tally}
+use Rattle.render.specs.Rendered.{meant}
+use Rattle.render.specs.Call.{Rendering, settings}
+
+-- ---- a call
+
+-- work, fit checks, memo hits and misses, candidates generated and pruned, peak frontier, memo entries, plan nodes, visits
+abbrev pub count-words : SolveStats → List ℕ
+count-words k =
+    k .«work_items» ∷ k .«fit_checks» ∷ k .«memo_hits» ∷ k .«memo_misses» ∷ k .«candidates_generated» ∷ k .«candidates_pruned» ∷ k .«peak_frontier»
+    ∷ k .«memo_entries» ∷ k .«plan_nodes» ∷ k .visits ∷ []
+
+-- 0: the refusal's number, or 0 where there is a page; 1: the needed size; 2: the page's bytes; 3: its spans; 4 to 6: its cost, that is the
+-- high and the low half of the overflow, and the burden; 7 to 16: the counts
+abbrev pub words : Rendered → List ℕ
+words (Page c n m k) = 0 ∷ 0 ∷ n ∷ m ∷ c .«overflow_high» ∷ c .«overflow_low» ∷ c .burden ∷ count-words k
+words (Refused n needed k) = n ∷ needed ∷ 0 ∷ 0 ∷ 0 ∷ 0 ∷ 0 ∷ count-words k
+
+abbrev pub options : ℕ → ℕ → ℕ → RenderOptions
+options width newline-cost policy = record { width = width; «newline_cost» = newline-cost; policy = policy }
+
+-- nine sizes in the order of 13 to 21, and the two limits
+abbrev pub bounds : List ℕ → ℕ → ℕ → Bounds
+bounds s work visits = record {
+  stack = getD s 0 0;
+  memo = getD s 1 0;
+  kept = getD s 2 0;
+  frontier = getD s 3 0;
+  plans = getD s 4 0;
+  visit = getD s 5 0;
+  depth = getD s 6 0;
+  output = getD s 7 0;
+  spans = getD s 8 0;
+  «work_limit» = work;
+  «visit_limit» = visits;
+}
+
+-- the words are those of the call's answer, and the number is the first of them
+pub record Answered (file : List ℕ) (o : RenderOptions) (b : Bounds) (l : Lengths) (output₀ output : List ℕ) (rows₀ rows : List Row) (answer : List ℕ) (number : ℕ) : Type 0 where
+  pub told : Rendered
+  pub rendering : Rendering file o b l output₀ output rows₀ rows told
+  pub answer-is : answer ≡ words told
+  pub number-is : number ≡ getD (words told) 0 0
+
+-- a refusal's number is 1 to 22, so that the number is 0 just where there is a page
+pub refusals :
+    {file : List ℕ} {o : RenderOptions} {b : Bounds} {l : Lengths} {output₀ output : List ℕ} {rows₀ rows : List Row} {answer : List ℕ} {number : ℕ}
+    → (a : Answered file o b l output₀ output rows₀ rows answer number) (n needed : ℕ) (k : SolveStats) → a .told ≡ Refused n needed k → (1 ≤ n) × (n ≤ 22)
+refusals {file} {o} {output = output} {rows = rows} a n needed k e = bounded (subst (λ (r : Rendered). Promised file (settings o) (meant r output rows)) e (a .rendering .promised))
+  where
+    bounded : Promised file (settings o) (refused n needed (tally k)) → (1 ≤ n) × (n ≤ 22)
+    bounded (right-refusal low high) = (low, high)
+
+-- ---- reader and writer
+
+-- nodes, edges, choice edges, texts, text bytes, annotations, root, space text
+abbrev pub table-words : Counts → List ℕ
+table-words n = n .nodes ∷ n .edges ∷ n .choices ∷ n .texts ∷ n .bytes ∷ n .annotations ∷ n .root .0 ∷ n .space .0 ∷ []
+
+-- the refusal's number, or 0 for an accepted file, whose counts are put; a refusal leaves the lent words as they were
+abbrev pub read-number : Answer → ℕ
+read-number (Accepted n) = 0
+read-number (Ill k) = k
+
+abbrev pub read-words : Answer → List ℕ → List ℕ
+read-words (Accepted n) was = table-words n
+read-words (Ill k) was = was
+
+-- the refusal's number, or 0 for a written file; how many bytes were written, or are needed (0 where no size is too small)
+abbrev pub write-number : Outcome → ℕ
+write-number (Written k) = 0
+write-number (Unwritten n needed) = n
+
+abbrev pub write-size : Outcome → ℕ
+write-size (Written k) = k
+write-size (Unwritten n needed) = needed
+
+pub record Read (s : List ℕ) (lent : Type 0) (nodes : List (List ℕ)) (edges choices : List ℕ) (texts : List (List ℕ)) (bytes was counts : List ℕ) (number : ℕ) : Type 0 where
+  pub told : Answer
+  pub reads : Reads s lent nodes edges choices texts bytes told
+  pub counts-are : counts ≡ read-words told was
+  pub number-is : number ≡ read-number told
+
+-- the tables' counts, as eight words give them
+abbrev pub counts : List ℕ → Counts
+counts w = record {
+  nodes = getD w 0 0;
+  edges = getD w 1 0;
+  choices = getD w 2 0;
+  texts = getD w 3 0;
+  bytes = getD w 4 0;
+  annotations = getD w 5 0;
+  root = record { 0 = getD w 6 0 };
+  space = record { 0 = getD w 7 0 };
+}
+
+pub record Wrote (t : Tables) (lent : Type 0) (out₀ out : List ℕ) (size number : ℕ) : Type 0 where
+  pub told : Outcome
+  pub writes : Writes t lent out₀ out told
+  pub size-is : size ≡ write-size told
+  pub number-is : number ≡ write-number told

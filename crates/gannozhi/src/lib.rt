@@ -1,0 +1,271 @@
+// The library for C and Rust: a call, a file read and a file written, with answers in words. None has a `requires`.
+ghost use mathlib.Core.Path.{_≡_};
+ghost use lib.ListN.{length, getD};
+ghost use Rattle.prepare.specs.File.{Lent};
+ghost use Rattle.prepare.specs.Writing.{lentTables, LentAt};
+ghost use Rattle.render.specs.Call.{lengths};
+ghost use Rattle.gannozhi.specs.Words.{words, options, bounds, Answered, read-number, read-words, Read, counts, write-number, write-size, Wrote};
+use form::fill::Counts;
+use prepare::read::Answer;
+use prepare::read::read;
+use prepare::write::Outcome;
+use prepare::write::write;
+use render::call::render_core;
+use render::page::Rendered;
+use tables::NodeId;
+use tables::TextId;
+use workspace::Bounds;
+use workspace::RenderOptions;
+
+fn answer_words(r: Rendered) -> [u64; 17]
+    ensures { λ w. ⌜ w ≡ words r ⌝ }
+{
+    match r {
+        Rendered::Page {
+            cost,
+            length,
+            spans,
+            stats: k,
+        } => [
+            0,
+            0,
+            length as u64,
+            spans as u64,
+            cost.overflow_high,
+            cost.overflow_low,
+            cost.burden,
+            k.work_items,
+            k.fit_checks,
+            k.memo_hits,
+            k.memo_misses,
+            k.candidates_generated,
+            k.candidates_pruned,
+            k.peak_frontier,
+            k.memo_entries,
+            k.plan_nodes,
+            k.visits,
+        ],
+        Rendered::Refused {
+            number,
+            needed,
+            stats: k,
+        } => [
+            number as u64,
+            needed,
+            0,
+            0,
+            0,
+            0,
+            0,
+            k.work_items,
+            k.fit_checks,
+            k.memo_hits,
+            k.memo_misses,
+            k.candidates_generated,
+            k.candidates_pruned,
+            k.peak_frontier,
+            k.memo_entries,
+            k.plan_nodes,
+            k.visits,
+        ],
+    }
+}
+
+fn answer_number(r: Rendered) -> u32
+    ensures { λ n. ⌜ n ≡ getD (words r) 0 0 ⌝ }
+{
+    match r {
+        Rendered::Page {
+            cost: _,
+            length: _,
+            spans: _,
+            stats: _,
+        } => 0,
+        Rendered::Refused {
+            number,
+            needed: _,
+            stats: _,
+        } => number,
+    }
+}
+
+fn bounds_of(s: [u32; 9], work_limit: u64, visit_limit: u64) -> Bounds
+    ensures { λ r. ⌜ r ≡ bounds s «work_limit» «visit_limit» ⌝ }
+{
+    Bounds {
+        stack: s[0],
+        memo: s[1],
+        kept: s[2],
+        frontier: s[3],
+        plans: s[4],
+        visit: s[5],
+        depth: s[6],
+        output: s[7],
+        spans: s[8],
+        work_limit: work_limit,
+        visit_limit: visit_limit,
+    }
+}
+
+// A file's page, or why there is none.
+#[no_mangle]
+pub extern "C" fn gannozhi_render(
+    file: &[u8],
+    width: u32,
+    newline_cost: u32,
+    policy: u32,
+    sizes: &[u32; 9],
+    work_limit: u64,
+    visit_limit: u64,
+    nodes: &mut [[u32; 8]],
+    edges: &mut [u32],
+    choices: &mut [u32],
+    texts: &mut [[u32; 3]],
+    bytes: &mut [u8],
+    tasks: &mut [[u32; 9]],
+    results: &mut [[u32; 2]],
+    pending: &mut [[u64; 7]],
+    slots: &mut [u64],
+    entries: &mut [[u64; 6]],
+    kept: &mut [[u64; 6]],
+    frontier: &mut [u64],
+    plans: &mut [[u32; 3]],
+    stack: &mut [usize],
+    held: &mut [usize],
+    output: &mut [u8],
+    rows: &mut [[u64; 4]],
+    answer: &mut [u64; 17],
+) -> u32
+    ensures { λ r. ⌜ Answered (now (file .entry)) (options width «newline_cost» policy) (bounds (now (sizes .entry)) «work_limit» «visit_limit») (lengths (now (nodes .entry)) (now (edges .entry)) (now (choices .entry)) (now (texts .entry)) (now (bytes .entry)) (now (tasks .entry)) (now (results .entry)) (now (pending .entry)) (now (slots .entry)) (now (entries .entry)) (now (kept .entry)) (now (frontier .entry)) (now (plans .entry)) (now (stack .entry)) (now (held .entry)) (now (output .entry)) (now (rows .entry))) (now (output .entry)) (now (output .exit)) (now (rows .entry)) (now (rows .exit)) (now (answer .exit)) r ⌝ }
+{
+    let o = RenderOptions {
+        width: width,
+        newline_cost: newline_cost,
+        policy: policy,
+    };
+    let b = bounds_of(*sizes, work_limit, visit_limit);
+    let r = render_core(
+        file,
+        o,
+        b,
+        nodes,
+        edges,
+        choices,
+        texts,
+        bytes,
+        tasks,
+        results,
+        pending,
+        slots,
+        entries,
+        kept,
+        frontier,
+        plans,
+        stack,
+        held,
+        output,
+        rows,
+    );
+    *answer = answer_words(r);
+    answer_number(r)
+}
+
+// ---- reader and writer
+
+fn read_number(a: Answer) -> u32
+    ensures { λ n. ⌜ n ≡ read-number a ⌝ }
+{
+    match a {
+        Answer::Accepted(_) => 0,
+        Answer::Refused(number) => number,
+    }
+}
+
+fn read_words(a: Answer, was: [u32; 8]) -> [u32; 8]
+    ensures { λ w. ⌜ w ≡ read-words a was ⌝ }
+{
+    match a {
+        Answer::Accepted(n) => [
+            n.nodes,
+            n.edges,
+            n.choices,
+            n.texts,
+            n.bytes,
+            n.annotations,
+            n.root.0,
+            n.space.0,
+        ],
+        Answer::Refused(_) => was,
+    }
+}
+
+// A file into lent tables.
+#[no_mangle]
+pub extern "C" fn gannozhi_read(
+    file: &[u8],
+    nodes: &mut [[u32; 8]],
+    edges: &mut [u32],
+    choices: &mut [u32],
+    texts: &mut [[u32; 3]],
+    bytes: &mut [u8],
+    counts: &mut [u32; 8],
+) -> u32
+    ensures { λ r. ⌜ Read (now (file .entry)) (Lent (length (now (nodes .entry))) (length (now (edges .entry))) (length (now (choices .entry))) (length (now (texts .entry))) (length (now (bytes .entry)))) (now (nodes .exit)) (now (edges .exit)) (now (choices .exit)) (now (texts .exit)) (now (bytes .exit)) (now (counts .entry)) (now (counts .exit)) r ⌝ }
+{
+    let a = read(file, nodes, edges, choices, texts, bytes);
+    *counts = read_words(a, *counts);
+    read_number(a)
+}
+
+fn counts_of(w: [u32; 8]) -> Counts
+    ensures { λ r. ⌜ r ≡ counts w ⌝ }
+{
+    Counts {
+        nodes: w[0],
+        edges: w[1],
+        choices: w[2],
+        texts: w[3],
+        bytes: w[4],
+        annotations: w[5],
+        root: NodeId(w[6]),
+        space: TextId(w[7]),
+    }
+}
+
+fn write_number(o: Outcome) -> u32
+    ensures { λ n. ⌜ n ≡ write-number o ⌝ }
+{
+    match o {
+        Outcome::Written(_) => 0,
+        Outcome::Refused(number, _) => number,
+    }
+}
+
+fn write_size(o: Outcome) -> usize
+    ensures { λ n. ⌜ n ≡ write-size o ⌝ }
+{
+    match o {
+        Outcome::Written(k) => k,
+        Outcome::Refused(_, needed) => needed,
+    }
+}
+
+// The file of lent tables.
+#[no_mangle]
+pub extern "C" fn gannozhi_write(
+    table_counts: &[u32; 8],
+    nodes: &[[u32; 8]],
+    edges: &[u32],
+    choices: &[u32],
+    texts: &[[u32; 3]],
+    bytes: &[u8],
+    out: &mut [u8],
+    size: &mut usize,
+) -> u32
+    ensures { λ r. ⌜ Wrote (lentTables (counts (now («table_counts» .entry))) (now (nodes .entry)) (now (edges .entry)) (now (choices .entry)) (now (texts .entry)) (now (bytes .entry))) (LentAt (counts (now («table_counts» .entry))) (now (nodes .entry)) (now (edges .entry)) (now (choices .entry)) (now (texts .entry)) (now (bytes .entry))) (now (out .entry)) (now (out .exit)) (now (size .exit)) r ⌝ }
+{
+    let n = counts_of(*table_counts);
+    let o = write(n, nodes, edges, choices, texts, bytes, out);
+    *size = write_size(o);
+    write_number(o)
+}

@@ -1,0 +1,586 @@
+#!/usr/bin/env python3
+"""A printer written after docs/RULE.md, as slow and plain as the text. It answers the calls of a sample (format:
+differential/differential/src/sample.rs) by part 4, and by part 2 where the layouts are few, and says where an answer differs.
+
+    fromrule.py FILE ..        cases in the sample's form
+    fromrule.py --page FILE .. inputs and outputs of the program `page`
+    fromrule.py HEX W N P      one file with width, newline cost, policy: page, spans, cost, counts at the sizes of `page`
+"""
+import sys
+
+sys.setrecursionlimit(20000)
+FEW = 3000  # layouts that part 2 is tried on
+KINDS = 'Empty Text Break HardLine Seq Group Fill Nest Align Choice Annotate Penalty'.split()
+NAMED = dict(Empty=0, Text=1, Break=0, HardLine=0, Seq=2, Group=1, Fill=2, Nest=2, Align=1, Choice=2, Annotate=2, Penalty=2)
+SIZES = 'stack memo kept frontier plans visit depth output spans'.split()
+COUNTS = 'work fit hits misses generated pruned peak entries plans visits'.split()
+
+
+class Refused(Exception):
+    def __init__(self, number, needed=0):
+        self.number, self.needed = number, needed
+
+
+def refuse_if(fault, number, needed=0):
+    if fault:
+        raise Refused(number, needed)
+
+
+# ---- part 1: the prepared file
+
+class Node:
+    pass
+
+
+class Reader:
+    def __init__(self, data, at=0):
+        self.data, self.at = data, at
+
+    def take(self, n):
+        refuse_if(self.at + n > len(self.data), 2)
+        self.at += n
+        return self.data[self.at - n:self.at]
+
+    def byte(self):
+        return self.take(1)[0]
+
+    def number(self):
+        return int.from_bytes(self.take(4), 'little')
+
+    def field(self, stands, zero=False):
+        if not stands:
+            return 0
+        value = self.number()
+        refuse_if(value == 0 and not zero, 3)
+        return value
+
+
+def bit(m, k):
+    return m >> k & 1 == 1
+
+
+class File:
+    def __init__(self, data, start=0):
+        r = Reader(data, start)
+        m = r.byte()
+        refuse_if(bit(m, 7), 3)
+        counts = []
+        for k, (low, high) in enumerate([(1, 4096), (0, 16384), (1, 4096), (0, 4096), (0, 16384)]):
+            counts.append(r.field(bit(m, k)))
+            refuse_if(not low <= counts[-1] <= high, 4)
+        self.root = r.field(bit(m, 5))
+        self.space = r.field(bit(m, 6))
+        nodes, edges, texts, self.annotations, choices = counts
+        self.nodes = [self.node(r) for _ in range(nodes)]
+        self.edges = [r.number() for _ in range(edges)]
+        self.choices = [r.number() for _ in range(choices)]
+        self.texts, total = [], 0
+        for _ in range(texts):
+            m = r.byte()
+            refuse_if(m > 3, 3)
+            width = r.field(bit(m, 0))
+            length = r.field(bit(m, 1))
+            total += length
+            refuse_if(total > 65536, 4)
+            self.texts.append((width, r.take(length)))
+        refuse_if(r.at != len(data), 5)
+        self.whole()
+
+    @staticmethod
+    def node(r):
+        n = Node()
+        m = r.byte()
+        refuse_if(m >= 64 or (bit(m, 3) or bit(m, 5)) and not bit(m, 4), 3)
+        kind = r.byte()
+        refuse_if(kind > 11, 3)
+        n.kind = KINDS[kind]
+        refuse_if(bit(m, 0) and NAMED[n.kind] < 1 or bit(m, 1) and NAMED[n.kind] < 2 or bit(m, 4) and kind != 9, 3)
+        n.first = r.field(bit(m, 0))
+        n.second = r.field(bit(m, 1))
+        flat = r.field(bit(m, 2), zero=True)
+        n.flat = flat if bit(m, 2) else None
+        n.start = r.field(bit(m, 3))
+        n.length = r.field(bit(m, 4))
+        n.skipped = r.field(bit(m, 5))
+        return n
+
+    def nodes_below(self, n):
+        """The children."""
+        if n.kind in ('Seq', 'Fill'):
+            return self.edges[n.first:n.first + n.second]
+        return {'Group': [n.first], 'Align': [n.first], 'Nest': [n.second], 'Annotate': [n.second], 'Penalty': [n.second],
+                'Choice': [n.first, n.second]}.get(n.kind, [])
+
+    def leads(self, n):
+        below = list(self.nodes_below(n))
+        if n.kind == 'Group' and self.nodes[n.first].flat is not None:
+            below.append(self.nodes[n.first].flat)
+        return below
+
+    def whole(self):
+        there = len(self.nodes)
+        named = [self.root < there, self.space < len(self.texts)]
+        named += [e < there for e in self.edges + self.choices]
+        for n in self.nodes:
+            if n.kind == 'Text':
+                named.append(n.first < len(self.texts))
+            if n.kind == 'Annotate':
+                named.append(n.first < self.annotations)
+            if n.kind in ('Seq', 'Fill'):
+                named.append(n.first <= len(self.edges) and n.first + n.second <= len(self.edges))
+            else:
+                named += [k < there for k in self.nodes_below(n)]
+            named.append(n.flat is None or n.flat < there)
+            named.append(n.length == 0 or n.start + n.length <= len(self.choices))
+        refuse_if(not all(named), 6)
+        refuse_if(any(10 in t for _, t in self.texts), 7)
+        refuse_if(self.texts[self.space] != (1, b' '), 8)
+        state = [0] * there
+        for n in range(there):
+            self.circle(n, state)
+        refuse_if(not all(self.right(n) for n in self.nodes if n.length), 10)
+
+    def circle(self, root, state):
+        stack = [(root, iter(self.leads(self.nodes[root])))] if not state[root] else []
+        if stack:
+            state[root] = 1
+        while stack:
+            at, below = stack[-1]
+            k = next(below, None)
+            if k is None:
+                state[at] = 2
+                stack.pop()
+            else:
+                refuse_if(state[k] == 1, 9)
+                if not state[k]:
+                    state[k] = 1
+                    stack.append((k, iter(self.leads(self.nodes[k]))))
+
+    def right(self, n):
+        """Whether the choice list comes of (preferred, alternative) by so many replacements: the first entry is the next of
+        the list as it stands, or a Choice that was replaced. As no node leads back to itself there is one way to find out."""
+        stack, skipped = [n.second, n.first], 0
+        for entry in self.choices[n.start:n.start + n.length]:
+            while stack and stack[-1] != entry:
+                k = self.nodes[stack.pop()]
+                if k.kind != 'Choice' or skipped == n.skipped:
+                    return False
+                skipped += 1
+                stack += [k.second, k.first]
+            if not stack:
+                return False
+            stack.pop()
+        return not stack and skipped == n.skipped
+
+
+# ---- part 2: the page, from all layouts. A layout is what it puts: ('text', width, bytes), ('line', indent), ('open', annotation),
+# ('close',), ('fee', amount)
+
+class Many(Exception):
+    pass
+
+
+class Rule:
+    def __init__(self, file, w, newline, policy):
+        self.file, self.w, self.newline, self.policy = file, w, newline, policy
+        self.made = 0
+
+    def over(self, c):
+        return max(c - self.w, 0)
+
+    def lowered(self, i):
+        return min(i, self.w - 1) if self.policy else i
+
+    def layouts(self, node, c, i):
+        """The layouts of a node from column c and indent i on, in choice order: what each puts, and the column after it."""
+        n, f = self.file.nodes[node], self.file
+        if n.kind in ('Break', 'HardLine'):
+            out = [([('line', i)], i)]
+        elif n.kind == 'Text':
+            out = [([('text',) + f.texts[n.first]], c + f.texts[n.first][0])]
+        elif n.kind in ('Empty', 'Seq', 'Fill'):
+            out = [([], c)]
+            for k, child in enumerate(f.nodes_below(n)):
+                if k and n.kind == 'Fill':
+                    out = [x for p, d in out for x in ((p + [('text',) + f.texts[f.space]], d + 1), (p + [('line', i)], i))]
+                out = [(p + q, e) for p, d in out for q, e in self.layouts(child, d, i)]
+                if len(out) > FEW:
+                    raise Many
+        elif n.kind == 'Group':
+            flat = f.nodes[n.first].flat
+            out = ([] if flat is None else self.layouts(flat, c, i)) + self.layouts(n.first, c, i)
+        elif n.kind == 'Nest':
+            out = self.layouts(n.second, c, self.lowered(i + n.first))
+        elif n.kind == 'Align':
+            out = self.layouts(n.first, c, self.lowered(c))
+        elif n.kind == 'Choice':
+            out = self.layouts(n.first, c, i) + self.layouts(n.second, c, i)
+        elif n.kind == 'Annotate':
+            out = [([('open', n.first)] + p + [('close',)], d) for p, d in self.layouts(n.second, c, i)]
+        else:
+            out = [([('fee', n.first)] + p, d) for p, d in self.layouts(n.second, c, i)]
+        self.made += sum(len(p) + 1 for p, _ in out)
+        if len(out) > FEW or self.made > 300000:
+            raise Many
+        return out
+
+    def worth(self, layout):
+        lines, burden = [0], 0
+        for p in layout:
+            if p[0] == 'text':
+                lines[-1] += p[1]
+            elif p[0] == 'line':
+                lines.append(p[1])
+                burden += self.newline
+            elif p[0] == 'fee':
+                burden += p[1]
+        return sum(self.over(c) ** 2 for c in lines), burden
+
+    def page(self):
+        best = min((p for p, _ in self.layouts(self.file.root, 0, 0)), key=self.worth)  # the first of the least
+        page, spans, open_ = b'', [], []
+        for p in best:
+            if p[0] == 'text':
+                page += p[2]
+            elif p[0] == 'line':
+                if p[1] > 1000000:
+                    raise Many
+                page += b'\n' + b' ' * p[1]
+            elif p[0] == 'open':
+                spans.append([p[1], len(page), None, open_[-1] if open_ else None])
+                open_.append(len(spans) - 1)
+            elif p[0] == 'close':
+                spans[open_.pop()][2] = len(page)
+        return page, spans, self.worth(best)
+
+
+# ---- part 4: the machine
+
+class Machine(Rule):
+    def __init__(self, file, w, newline, policy, sizes, work_limit, visit_limit):
+        super().__init__(file, w, newline, policy)
+        self.sizes, self.work_limit, self.visit_limit = dict(zip(SIZES, sizes)), work_limit, visit_limit
+        self.count = dict.fromkeys(COUNTS, 0)
+        self.tasks, self.results, self.pending, self.memo, self.kept, self.plans, self.frontier = [], [], [], {}, [], [], []
+
+    def need(self, kind, n):
+        refuse_if(n > self.sizes[kind], 13 + SIZES.index(kind), n)
+
+    def test_work(self, other):
+        refuse_if(self.count['work'] >= self.work_limit, 12)
+        self.count['work'] += 1
+        self.count[other] += 1
+
+    def push(self, stack, x):
+        self.need('stack', len(stack) + 1)
+        stack.append(x)
+
+    # 4.2: a candidate is (cost, column, plan, new)
+    def present(self, cost, column, plan, new):
+        precedence = self.count['generated']
+        self.test_work('generated')
+        f = self.frontier
+        same = [x for x in f if x[1] == column]
+        lower = [x for x in f if x[1] < column]
+        if same and same[0][0] <= cost or lower and max(lower, key=lambda x: x[1])[0] < cost:
+            self.count['pruned'] += 1
+            return
+        left = [x for x in f if not (x[1] == column or x[1] > column and x[0] > cost)]
+        self.count['pruned'] += len(f) - len(left)
+        self.need('frontier', len(left) + 1)
+        self.frontier = left + [(cost, column, precedence, plan, new)]
+
+    def finish(self):
+        f = self.frontier
+        self.need('plans', len(self.plans) + sum(x[4] for x in f))
+        self.need('kept', len(self.kept) + len(f))
+        start = len(self.kept)
+        for cost, column, precedence, plan, new in f:
+            if new:
+                self.plans.append(plan)
+            self.kept.append((cost, column, precedence, len(self.plans) - 1 if new else plan))
+        self.count['peak'] = max(self.count['peak'], len(f))
+        self.frontier = []
+        return range(start, len(self.kept))
+
+    def complete(self, key, found):
+        self.need('memo', len(self.memo) + 1)
+        self.memo[key] = found
+        self.count['entries'] = len(self.memo)
+        self.push(self.results, found)
+
+    def sum(self, a, b):
+        refuse_if(a[0] + b[0] >= 2 ** 128, 11)
+        refuse_if(a[1] + b[1] >= 2 ** 64, 11)
+        return a[0] + b[0], a[1] + b[1]
+
+    def text(self, c, w):
+        refuse_if(c + w >= 2 ** 32, 11)
+        return self.over(c + w) ** 2 - self.over(c) ** 2, 0
+
+    def line(self, i):
+        self.present((self.over(i) ** 2, self.newline), i, ('line', i), True)
+
+    # 4.3
+    def solve(self):
+        self.push(self.tasks, (self.evaluate, (self.file.root, 0, 0)))
+        while self.tasks:
+            task, *rest = self.tasks.pop()
+            task(*rest)
+        self.count['plans'] = len(self.plans)
+        best = min((self.kept[x] for x in self.results.pop()), key=lambda x: (x[0], x[2]))
+        return best[0], best[3]
+
+    def then(self, task, *keys):
+        self.push(self.tasks, task)
+        for key in keys:
+            self.push(self.tasks, (self.evaluate, key))
+
+    def evaluate(self, key):
+        node, c, i = key
+        n, f = self.file.nodes[node], self.file
+        if key in self.memo:
+            self.test_work('hits')
+            return self.push(self.results, self.memo[key])
+        self.test_work('misses')
+        below = f.nodes_below(n)
+        if n.kind == 'Empty' or n.kind in ('Seq', 'Fill') and not below:
+            self.present((0, 0), c, ('nothing',), True)
+            self.complete(key, self.finish())
+        elif n.kind == 'Text':
+            cost = self.text(c, f.texts[n.first][0])
+            self.present(cost, c + f.texts[n.first][0], ('text', n.first), True)
+            self.complete(key, self.finish())
+        elif n.kind in ('Break', 'HardLine'):
+            self.line(i)
+            self.complete(key, self.finish())
+        elif n.kind in ('Seq', 'Fill'):
+            self.then((self.go_on, key, 1), (below[0], c, i))
+        elif n.kind == 'Group':
+            flat = f.nodes[n.first].flat
+            if flat is None:
+                self.then((self.pass_on, key), (n.first, c, i))
+            else:
+                self.then((self.unite, key), (n.first, c, i), (flat, c, i))
+        elif n.kind == 'Nest':
+            refuse_if(i + n.first >= 2 ** 32, 11)
+            self.then((self.pass_on, key), (n.second, c, self.lowered(i + n.first)))
+        elif n.kind == 'Align':
+            self.then((self.pass_on, key), (n.first, c, self.lowered(c)))
+        elif n.kind == 'Choice' and n.length:
+            for _ in range(n.skipped):
+                self.test_work('misses')
+            list_ = f.choices[n.start:n.start + n.length]
+            self.then((self.unite_all, key, len(self.results)), *[(k, c, i) for k in reversed(list_)])
+        elif n.kind == 'Choice':
+            self.then((self.unite, key), (n.second, c, i), (n.first, c, i))
+        elif n.kind == 'Annotate':
+            self.then((self.wrap, key, 'mark', n.first), (n.second, c, i))
+        else:
+            self.then((self.wrap, key, 'charge', n.first), (n.second, c, i))
+
+    def pass_on(self, key):
+        self.complete(key, self.results.pop())
+
+    def unite(self, key):
+        self.unite_all(key, len(self.results) - 2)
+
+    def unite_all(self, key, n):
+        for found in self.results[n:]:
+            for x in found:
+                cost, column, _, plan = self.kept[x]
+                self.present(cost, column, plan, False)
+        found = self.finish()
+        del self.results[n:]
+        self.complete(key, found)
+
+    def wrap(self, key, how, number):
+        for x in self.results.pop():
+            cost, column, _, plan = self.kept[x]
+            cost = self.sum(cost, (0, number if how == 'charge' else 0))
+            self.present(cost, column, (how, number, plan), True)
+        self.complete(key, self.finish())
+
+    def join(self, left, found):
+        for x in found:
+            right = self.kept[x]
+            cost = self.sum(left[0], right[0])
+            self.push(self.pending, (cost, right[1], ('join', left[3], right[3]), True))
+
+    def present_pending(self, p):
+        for x in self.pending[p:]:
+            self.present(*x)
+        del self.pending[p:]
+        return self.finish()
+
+    def gap(self, left, i):
+        p = len(self.pending)
+        for x in left:
+            c = self.kept[x][1]
+            cost = self.text(c, 1)
+            self.present(cost, c + 1, ('text', self.file.space), True)
+            self.line(i)
+            self.join(self.kept[x], self.finish())
+        return self.present_pending(p)
+
+    def go_on(self, key, k):
+        node, c, i = key
+        n = self.file.nodes[node]
+        left = self.results.pop()
+        if k >= len(self.file.nodes_below(n)):
+            return self.complete(key, left)
+        if n.kind == 'Fill':
+            left = self.gap(left, i)
+        self.rights(key, k, left, 0, len(self.pending))
+
+    def rights(self, key, k, left, o, p):
+        child = self.file.nodes_below(self.file.nodes[key[0]])[k]
+        self.then((self.right, key, k, left, o, p), (child, self.kept[left[o]][1], key[2]))
+
+    def right(self, key, k, left, o, p):
+        self.join(self.kept[left[o]], self.results.pop())
+        if o + 1 < len(left):
+            return self.rights(key, k, left, o + 1, p)
+        found = self.present_pending(p)
+        self.push(self.tasks, (self.go_on, key, k + 1))
+        self.push(self.results, found)
+
+    # 4.5
+    def materialize(self, root):
+        page, spans, open_, visit = bytearray(), [], [], []
+
+        def push(x):
+            self.need('visit', len(visit) + 1)
+            visit.append(x)
+
+        push(root)
+        while visit:
+            refuse_if(self.count['visits'] >= self.visit_limit, 22)
+            self.count['visits'] += 1
+            x = visit.pop()
+            plan = ('close',) if x == 'close' else self.plans[x]
+            if plan[0] == 'text':
+                t = self.file.texts[plan[1]][1]
+                self.need('output', len(page) + len(t))
+                page += t
+            elif plan[0] == 'line':
+                refuse_if(len(page) + plan[1] + 1 > self.sizes['output'], 20, self.sizes['output'] + 1)
+                page += b'\n' + b' ' * plan[1]
+            elif plan[0] == 'join':
+                push(plan[2])
+                push(plan[1])
+            elif plan[0] == 'mark':
+                self.need('spans', len(spans) + 1)
+                self.need('depth', len(open_) + 1)
+                spans.append([plan[1], len(page), None, open_[-1] if open_ else None])
+                open_.append(len(spans) - 1)
+                push('close')
+                push(plan[2])
+            elif plan[0] == 'charge':
+                push(plan[2])
+            elif plan[0] == 'close':
+                spans[open_.pop()][2] = len(page)
+        return bytes(page), spans
+
+    def render(self):
+        cost, root = self.solve()
+        return self.materialize(root) + (cost,)
+
+
+def answer(data, settings, sizes, limits, start=0):
+    """(page, spans, cost) or (number, needed), and the counts."""
+    w, newline, policy = settings
+    counts = dict.fromkeys(COUNTS, 0)
+    try:
+        refuse_if(w == 0 or policy > 1, 1)
+        file = File(data, start)
+        m = Machine(file, w, newline, policy, sizes, *limits)
+        counts = m.count
+        said = m.render()
+        try:
+            ruled = Rule(file, w, newline, policy).page()
+            assert ruled == said, ('part 2 differs from part 4', ruled, said)
+            answer.by_rule += 1
+        except Many:
+            pass
+        return said, counts
+    except Refused as r:
+        return (r.number, r.needed), counts
+
+
+answer.by_rule = 0
+PAGE = [512, 1024, 1024, 256, 2048, 512, 64, 32768, 512], [1000000, 1000000]
+
+
+def program(data):
+    try:
+        refuse_if(len(data) > 32768, 4)
+        r = Reader(data)
+        m = r.byte()
+        refuse_if(m > 7, 3)
+        w = r.field(bit(m, 0))
+        newline = r.field(bit(m, 1))
+        said, counts = answer(data, (w, newline, m >> 2), *PAGE, start=r.at)
+    except Refused as r:
+        said = r.number, 0
+    if len(said) == 2:
+        return b'refused %d\n' % said[0]
+    page, spans, cost = said
+    return b'page %d %032x %d %d\n' % (counts['work'], cost[0], cost[1], len(spans)) + page + b'\n'
+
+
+def shown(said, counts):
+    if len(said) == 2:
+        lines = ['refused %d %d' % said]
+    else:
+        page, spans, cost = said
+        lines = ['page ' + (page.hex() or '-'), 'cost %032x %d' % cost]
+        lines += ['span %d %d %d %s' % (a, s, e, '-' if up is None else up) for a, s, e, up in spans]
+    return lines + ['counts ' + ' '.join(str(counts[k]) for k in COUNTS)]
+
+
+def unhex(text):
+    if text.startswith('REPEAT'):
+        _, n, byte = text.split()
+        return bytes.fromhex(byte) * int(n)
+    return b'' if text == '-' else bytes.fromhex(text)
+
+
+def main(arguments):
+    if arguments[0] == '--page':
+        done = wrong = 0
+        for name in arguments[1:]:
+            for block in open(name).read().split('\n\n'):
+                if not block.strip():
+                    continue
+                given, wanted = [unhex(line.split(' ', 1)[1]) for line in block.strip().split('\n')]
+                done += 1
+                if program(given) != wanted:
+                    wrong += 1
+                    print(given.hex(), program(given), wanted)
+        return print(done, 'inputs,', wrong, 'different')
+    if len(arguments) == 4 and arguments[1].isdigit():
+        return print('\n'.join(shown(*answer(bytes.fromhex(arguments[0]), [int(x) for x in arguments[1:]], *PAGE))))
+    done, kinds, wrong = 0, {}, 0
+    for name in arguments:
+        for block in open(name).read().split('\n\n'):
+            lines = block.strip().split('\n')
+            if lines == ['']:
+                continue
+            case = dict(line.split(' ', 1) for line in lines[:6])
+            given = [[int(x) for x in case[k].split()] for k in ('settings', 'sizes', 'limits')]
+            try:
+                said = shown(*answer(unhex(case['file']), *given))
+            except AssertionError as e:
+                said = [str(e)[:300]]
+            done += 1
+            kind = ' '.join(lines[6].split()[:2]) if lines[6].startswith('refused') else 'page'
+            kinds[kind] = kinds.get(kind, 0) + 1
+            if said != lines[6:]:
+                wrong += 1
+                if wrong <= 5:
+                    print('\n'.join(lines), '\nFROM THE RULE:', *said, sep='\n')
+    print(done, 'calls,', answer.by_rule, 'by part 2 too,', wrong, 'different;', ', '.join('%s: %d' % k for k in sorted(kinds.items())))
+
+
+main(sys.argv[1:])
