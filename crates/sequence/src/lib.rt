@@ -5,12 +5,17 @@ ghost use mathlib.Core.List.{List, [], _∷_};
 ghost use Prim.Native.Nat.{ℕ, _+_, _≤_, _<_};
 ghost use lib.ListN.{length, getD};
 ghost use Rattle.layout.specs.Rules.{Rules};
-ghost use Rattle.machine.specs.Model.{Prepared, part, range, children};
-ghost use Rattle.machine.specs.Solver.{push-joined, push-right};
+ghost use Rattle.machine.specs.Model.{Prepared, part, range, children, scratch};
+ghost use Rattle.machine.specs.Solver.{push-joined, push-right, push-pending};
+ghost use Rattle.cost.specs.Value.{value};
 ghost use Rattle.workspace.specs.Meets.{Meets, Sound, counts};
 ghost use Rattle.workspace.specs.Frames.{Keeps};
-ghost use Rattle.workspace.specs.Rows.{Row, abs, candidate, candidate-of, row-list};
+ghost use Rattle.workspace.specs.Rows.{Row, abs, candidate, candidate-of, row-list, plan-of};
+ghost use Rattle.workspace.specs.declared.Registers.{Registers as State};
+ghost use Rattle.sequence.specs.Joined.{joined};
+use cost::ConsumerCost;
 use cost::Costed;
+use cost::Reason;
 use memo::MemoKey;
 use plan::PendingPlan;
 use workspace::Answer;
@@ -20,27 +25,63 @@ use workspace::ExactTask;
 use workspace::Registers;
 use workspace::Why;
 
+// What became of a join: it is pending; there is no room for it; or its cost has no place.
+pub enum Joined {
+    Put,
+    Full,
+    Past(Reason),
+}
+
+// A pending candidate after the first p. The registers are not passed: only p would change.
+fn push_pending(
+    b: Bounds,
+    p: usize,
+    pending: &mut [[u64; 7]],
+    cost: ConsumerCost,
+    last: u32,
+    plan: PendingPlan,
+) -> Joined
+    requires { ⌜ b .stack ≤ length (now pending) ⌝ }
+    ensures { λ r. ⌜ ((st : State) → st .pending ≡ p → Sound b st → (ts rs es ks : List Row) (fs : List ℕ) (ns : List Row) → Meets b (counts st) (push-pending (scratch (value cost) last (plan-of plan)) (abs st ts rs (now (pending .entry)) es ks fs ns)) (joined st r) (λ s. abs s ts rs (now (pending .exit)) es ks fs ns)) ⌝ }
+{
+    let size = b.stack as usize;
+    if size <= p {
+        return Joined::Full;
+    }
+    let c = workspace::scratch_candidate(cost, last, plan);
+    let column = last as u64;
+    pending[p] = [
+        cost.overflow_high,
+        cost.overflow_low,
+        cost.burden,
+        column,
+        c.kind,
+        c.first,
+        c.second,
+    ];
+    Joined::Put
+}
+
 // One left candidate followed by one right one.
 fn push_join(
     b: Bounds,
-    st: Registers,
+    p: usize,
     pending: &mut [[u64; 7]],
     left: Candidate,
     right: Candidate,
-) -> Answer
-    requires { ⌜ (b .stack ≤ length (now pending)) × Sound b st ⌝ }
-    ensures meets { λ a. ⌜ ((ts rs es ks : List Row) (fs : List ℕ) (ns : List Row) → Meets b (counts st) (push-joined (candidate left) (candidate right ∷ []) (abs st ts rs (now (pending .entry)) es ks fs ns)) a (λ s. abs s ts rs (now (pending .exit)) es ks fs ns)) ⌝ }
-    ensures keeps { λ a. ⌜ Keeps st a ⌝ }
+) -> Joined
+    requires { ⌜ b .stack ≤ length (now pending) ⌝ }
+    ensures { λ r. ⌜ ((st : State) → st .pending ≡ p → Sound b st → (ts rs es ks : List Row) (fs : List ℕ) (ns : List Row) → Meets b (counts st) (push-joined (candidate left) (candidate right ∷ []) (abs st ts rs (now (pending .entry)) es ks fs ns)) (joined st r) (λ s. abs s ts rs (now (pending .exit)) es ks fs ns)) ⌝ }
 {
     let cost = left.cost;
     let other = right.cost;
     let front = left.plan;
     let back = right.plan;
     match cost.checked_add(other) {
-        Costed::Failed(reason) => Answer::Stop(Why::Domain(reason), 0, st),
-        Costed::Cost(sum) => workspace::push_pending(
+        Costed::Failed(reason) => Joined::Past(reason),
+        Costed::Cost(sum) => push_pending(
             b,
-            st,
+            p,
             pending,
             sum,
             right.last,
@@ -67,23 +108,33 @@ pub fn push_joined(
     ensures keeps { λ a. ⌜ Keeps st a ⌝ }
 {
     let count = st.kept;
-    let mut s = st;
     let mut at = start as usize;
+    let mut p = st.pending;
     let mut left_over = len;
     while 0 < left_over {
         let right = workspace::candidate_at(kept, count, at);
-        let a = push_join(b, s, pending, left, right);
+        let a = push_join(b, p, pending, left, right);
         match a {
-            Answer::Stop(why, needed, z) => {
-                return Answer::Stop(why, needed, z);
+            Joined::Past(reason) => {
+                let mut z = st;
+                z.pending = p;
+                return Answer::Stop(Why::Domain(reason), 0, z);
             }
-            Answer::Go(z) => {
-                s = z;
+            Joined::Full => {
+                let mut z = st;
+                z.pending = p;
+                let needed = (p + 1) as u64;
+                return Answer::Stop(Why::Stack, needed, z);
+            }
+            Joined::Put => {
+                p = p + 1;
             }
         }
         at = at + 1;
         left_over = left_over - 1;
     }
+    let mut s = st;
+    s.pending = p;
     Answer::Go(s)
 }
 

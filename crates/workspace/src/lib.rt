@@ -7,7 +7,7 @@ ghost use lib.ListN.{length, getD};
 ghost use Rattle.machine.specs.Events.{ret, Hit, Miss};
 ghost use Rattle.layout.specs.Rules.{Rules};
 ghost use Rattle.machine.specs.Model.{Prepared, range, scratch, no-candidate, got};
-ghost use Rattle.machine.specs.Solver.{push-exact-task, push-exact-result, pop-exact-result, push-pending, complete-node, push-child};
+ghost use Rattle.machine.specs.Solver.{push-exact-task, push-exact-result, pop-exact-result, complete-node, push-child};
 ghost use Rattle.machine.specs.Solver.{memo-insert as inserting};
 ghost use Rattle.frontier.specs.Candidates.{carried};
 ghost use Rattle.cost.specs.Value.{value};
@@ -313,40 +313,6 @@ pub fn scratch_candidate(cost: ConsumerCost, last: u32, plan: PendingPlan) -> Sc
     }
 }
 
-pub fn push_pending(
-    b: Bounds,
-    st: Registers,
-    pending: &mut [[u64; 7]],
-    cost: ConsumerCost,
-    last: u32,
-    plan: PendingPlan,
-) -> Answer
-    requires { ⌜ (b .stack ≤ length (now pending)) × Sound b st ⌝ }
-    ensures meets { λ a. ⌜ ((ts rs es ks : List Row) (fs : List ℕ) (ns : List Row) → Meets b (counts st) (push-pending (scratch (value cost) last (plan-of plan)) (abs st ts rs (now (pending .entry)) es ks fs ns)) a (λ s. abs s ts rs (now (pending .exit)) es ks fs ns)) ⌝ }
-    ensures keeps { λ a. ⌜ Keeps st a ⌝ }
-{
-    let p = st.pending;
-    let size = b.stack as usize;
-    if size <= p {
-        let needed = (p + 1) as u64;
-        return Answer::Stop(Why::Stack, needed, st);
-    }
-    let c = scratch_candidate(cost, last, plan);
-    let column = last as u64;
-    pending[p] = [
-        cost.overflow_high,
-        cost.overflow_low,
-        cost.burden,
-        column,
-        c.kind,
-        c.first,
-        c.second,
-    ];
-    let mut s = st;
-    s.pending = p + 1;
-    Answer::Go(s)
-}
-
 // Pending candidate `index`.
 pub fn pending_at(pending: &[[u64; 7]], index: usize) -> ScratchCandidate
     requires { ⌜ index < length (now pending) ⌝ }
@@ -473,9 +439,23 @@ pub fn push_child(
     ensures meets { λ a. ⌜ ((R : Rules) (P : Prepared) (rs ps es ks : List Row) (fs : List ℕ) (ns : List Row) → Meets b (counts st) (push-child R P (meant task) child (abs st (now (tasks .entry)) rs ps es ks fs ns)) a (λ s. abs s (now (tasks .exit)) rs ps es ks fs ns)) ⌝ }
     ensures keeps { λ a. ⌜ Keeps st a ⌝ }
 {
-    let a = push_exact_task(b, st, tasks, task);
-    let Answer::Go(s) = a else {
-        return a;
-    };
-    push_exact_task(b, s, tasks, ExactTask::Eval(child))
+    let t = st.tasks;
+    let size = b.stack as usize;
+    if size <= t {
+        let needed = (t + 1) as u64;
+        return Answer::Stop(Why::Stack, needed, st);
+    }
+    let row = task_row(task);
+    tasks[t] = row;
+    let u = t + 1;
+    let mut s = st;
+    s.tasks = u;
+    if size <= u {
+        let needed = (u + 1) as u64;
+        return Answer::Stop(Why::Stack, needed, s);
+    }
+    let inner = task_row(ExactTask::Eval(child));
+    tasks[u] = inner;
+    s.tasks = u + 1;
+    Answer::Go(s)
 }

@@ -1,47 +1,77 @@
-use Rattle.workspace.specs.Runs.{kept-on}
-use mathlib.Core.List.{[]}
+use denote.Ref.{now}
 use native.Mathlib.Omega.{arith}
-use Rattle.machine.specs.Solver.{push-child, push-exact-task}
-use Rattle.workspace.specs.Runs.{seq, halt, ok, kept-by}
+use lib.ListN.{length-set}
+use Rattle.machine.specs.Solver.{push-child}
+use Rattle.workspace.proofs.Children.{child-none, child-one, child-both}
 use borrow.Author.Needs.{needs}
 use Rattle.workspace.proofs.push_child.Statement.{statement}
 use Rattle.workspace.proofs.push_child.Tie as tie
 
-push-exact-task-requires : tie.Need-push-exact-task-requires
-push-exact-task-requires c κs = search needs
+cast-size : tie.Need-cast-size
+cast-size c = search needs
 
-enum-known-a : tie.Need-enum-known-a
-enum-known-a c = search needs
+add-needed : tie.Need-add-needed
+add-needed c = search needs
 
-enum-told : tie.Need-enum-told
-enum-told c = search needs
+returns : tie.Need-returns
+returns c = (λ R P rs ps es ks fs ns. child-none R P _ _ _ rs ps es ks fs ns _ _ _ (omega arith), record { by = tt })
+
+task-row-requires : tie.Need-task-row-requires
+task-row-requires c κs = search needs
+
+mul-row : tie.Need-mul-row
+mul-row c = search needs
+
+slice-set-from-row : tie.Need-slice-set-from-row
+slice-set-from-row c = search needs
+
+add-u : tie.Need-add-u
+add-u c = search needs
+
+add-needed-2 : tie.Need-add-needed-2
+add-needed-2 c = search needs
 
 same-length : tie.Need-same-length
 same-length c = search needs
 
-returns : tie.Need-returns
-unfolding push-child
-returns c = (λ R P rs ps es ks fs ns. halt _ (c .before .before .before .push-exact-task .ensures .0 rs ps es ks fs ns) (c .enum-told .given .1), c .before .before .before .push-exact-task .ensures .1)
+returns-2 : tie.Need-returns-2
+returns-2 c = (λ R P rs ps es ks fs ns. child-one R P _ _ _ rs ps es ks fs ns _ _ _ _ (c .before .task-row .ensures) (omega arith) (omega arith) (search needs) (omega arith), record { by = tt })
 
-push-exact-task-requires-2 : tie.Need-push-exact-task-requires-2
-push-exact-task-requires-2 c κs = (omega arith, ok (c .before .before .before .before .before .push-exact-task .ensures .0 [] [] [] [] [] []) (c .before .before .a .given .1))
+task-row-requires-2 : tie.Need-task-row-requires-2
+task-row-requires-2 c κs = search needs
+
+mul-inner : tie.Need-mul-inner
+mul-inner c = search needs
+
+slice-set-from-inner : tie.Need-slice-set-from-inner
+slice-set-from-inner c = omega (arith, length-set (now (c .before .before .before .before .before .args .tasks)) (c .before .before .before .before .before .args .st .tasks) (c .before .before .task-row .result))
+
+add-s : tie.Need-add-s
+add-s c = search needs
 
 same-length-2 : tie.Need-same-length-2
 same-length-2 c = search needs
 
-returns-2 : tie.Need-returns-2
-unfolding push-child
-returns-2 c = (λ R P rs ps es ks fs ns. seq _ (c .before .before .before .before .before .before .before .push-exact-task .ensures .0 rs ps es ks fs ns) (c .before .before .before .before .a .given .1) (c .before .push-exact-task2 .ensures .0 rs ps es ks fs ns), kept-on _ (kept-by (c .before .before .before .before .before .before .before .push-exact-task .ensures .1) (c .before .before .before .before .a .given .1)) (c .before .push-exact-task2 .ensures .1))
+returns-3 : tie.Need-returns-3
+returns-3 c = (λ R P rs ps es ks fs ns. child-both R P _ _ _ rs ps es ks fs ns _ _ _ _ (c .before .before .task-row .ensures) (c .task-row2 .ensures) (omega arith) (omega arith) (omega arith) (omega (arith, length-set (now (c .before .before .before .before .before .args .tasks)) (c .before .before .before .before .before .args .st .tasks) (c .before .before .task-row .result))) (search needs) (search needs), record { by = search needs })
 
 pub push-child-spec : {M : Type 1} → statement M
 push-child-spec =
     tie.close
     (tie.spec
-    push-exact-task-requires
-    enum-known-a
-    enum-told
-    same-length
+    cast-size
+    add-needed
     returns
-    push-exact-task-requires-2
+    task-row-requires
+    mul-row
+    slice-set-from-row
+    add-u
+    add-needed-2
+    same-length
+    returns-2
+    task-row-requires-2
+    mul-inner
+    slice-set-from-inner
+    add-s
     same-length-2
-    returns-2)
+    returns-3)
