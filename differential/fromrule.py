@@ -583,4 +583,8 @@ def main(arguments):
     print(done, 'calls,', answer.by_rule, 'by part 2 too,', wrong, 'different;', ', '.join('%s: %d' % k for k in sorted(kinds.items())))
 
 
-main(sys.argv[1:])
+if __name__ == '__main__':
+    if sys.argv[1:]:
+        main(sys.argv[1:])
+    else:
+        print(__doc__)

@@ -19,7 +19,7 @@ use Rattle.plan.specs.declared.PlanNode.the-variants.{Empty, Text, Newline, Con
 use Rattle.plan.specs.Records.{nodeAt}
 use Rattle.plan.specs.Arena.{arena}
 use Rattle.plan.specs.Layouts.{layoutOf, layouts, Fine, Ranked}
-use Rattle.plan.proofs.Uses.{layout-is, arena-node, arena-length}
+use Rattle.plan.specs.Uses.{layout-is, arena-node, arena-length}
 use Rattle.machine.specs.Events.{Prog, _>>_, Out, visit, depth, output, spans}
 use Rattle.machine.specs.Materializer.{visit-plan}
 use Rattle.materialize.specs.declared.Capacity.{Capacity}

@@ -1,6 +1,6 @@
 -- A pending plan's words, and the arena once it is committed.
 use mathlib.Core.Path.{_≡_, refl, sym, ap}
-use mathlib.Core.List.{List, [], _∷_, _++_}
+use mathlib.Core.List.{List, [], _∷_, _++_, append-nil}
 use Prim.Native.Nat.{ℕ, zero, suc, _+_, _≤_, _<_}
 use native.Mathlib.Numerals.{add-one}
 use native.Mathlib.Nat.{add-zero}
@@ -13,10 +13,6 @@ use Rattle.plan.specs.declared.PendingPlan.{PendingPlan}
 use Rattle.plan.specs.declared.PendingPlan.the-variants.{Existing, Empty, Text, Newline, Concat, Annotate, Penalty}
 use Rattle.plan.specs.Records.{nodeOf, recordOf, pendingOf}
 use Rattle.plan.specs.Arena.{arena, view, additions, numbered, Committing}
-
-pub append-nil : (l : List PlanNode) → l ++ [] ≡ l
-append-nil [] = refl
-append-nil (x ∷ l) = ap (λ z. x ∷ z) (append-nil l)
 
 -- kind 6 is Existing
 pub there : (p : PendingPlan) → recordOf p .kind ≡ 6 → additions (view p) ≡ []

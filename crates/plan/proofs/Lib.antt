@@ -1,3 +1,2 @@
 pub mod Commit
-pub mod Uses
 pub mod Cases

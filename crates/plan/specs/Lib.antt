@@ -1,3 +1,4 @@
 pub mod Records
 pub mod Arena
 pub mod Layouts
+pub mod Uses

@@ -198,7 +198,8 @@ fn render_lent(
     }
 }
 
-// A file's page, or why there is none.
+// A file's page, or why there is none. A page goes to the front of `output`, its spans to the front of `rows`. All else that is lent by `&mut` is
+// tables and working memory, which may hold anything before and after.
 pub fn render_core(
     file: &[u8],
     options: RenderOptions,

@@ -12,7 +12,7 @@ use Rattle.rules.specs.declared.Counts.{Counts}
 use Rattle.rules.specs.Told.{Told}
 use Rattle.rules.specs.References.{Child, of-group, of-nest, of-align, preferred, alternative, of-annotate, of-penalty, Ranged, seq, fill, KindNamed}
 use Rattle.rules.proofs.Enumerated.{marked}
-use Rattle.rules.proofs.Tells.{tell-yes, tell-no, tell-lt, tell-le}
+use Rattle.rules.specs.Tells.{tell-yes, tell-no, tell-lt, tell-le}
 
 module _ (n : Counts) (row : List ℕ) where
   -- from numbers alone, so that a kind answers each part by arithmetic

@@ -12,7 +12,7 @@ use Rattle.tables.specs.Tables.{kind, first, second, choice-start, choice-lengt
 use Rattle.rules.specs.Told.{Told}
 use Rattle.rules.specs.Search.{Cut, done, keep, split, Down, once, again, RowRight}
 use Rattle.rules.proofs.Orders.{cut-length}
-use Rattle.rules.proofs.Tells.{tell-yes, tell-no, tell-same}
+use Rattle.rules.specs.Tells.{tell-yes, tell-no, tell-same}
 
 -- from nothing comes nothing
 pub from-none : {t : List (List ℕ)} {ys xs : List ℕ} {k : ℕ} → Cut t ys xs k → length ys ≡ 0 → length xs ≡ 0

@@ -15,7 +15,7 @@ use Rattle.rules.specs.Descent.{Ends, ends}
 use Rattle.rules.proofs.Enumerated.{nth-of, nth-refers}
 use Rattle.rules.proofs.Ways.{no-way-back}
 use Rattle.rules.proofs.White.{white-set-le}
-use Rattle.rules.proofs.Tells.{tell-no}
+use Rattle.rules.specs.Tells.{tell-no}
 
 module _ (t : List (List ℕ)) (e : List ℕ) where
   -- from a node on the way, i is reached in some steps or none

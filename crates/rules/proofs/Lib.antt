@@ -1,4 +1,3 @@
-pub mod Tells
 pub mod Rows
 pub mod ByKind
 pub mod Spaces

@@ -1,27 +1,12 @@
 -- Document 01, "Calls": each of the refusals 6 to 10 over the whole file, in this order.
 use Prim.Native.Nat.{ℕ, _≤_}
-use mathlib.Core.List.{List}
-use lib.ListN.{length, take}
+use lib.ListN.{length}
 use Rattle.tables.specs.Tables.{Tables}
 pub use Rattle.tables.specs.Tables.{tables}
-use Rattle.rules.specs.declared.Counts.{Counts}
 use Rattle.rules.specs.References.{References}
 use Rattle.rules.specs.Texts.{Inside, TextsOk, SpaceOk}
 use Rattle.rules.specs.Circle.{Circle}
 use Rattle.rules.specs.Choice.{ListsRight}
-
--- the tables in lent memory that may be longer: the first rows of each, as many as are counted, and the first `total` bytes
-abbrev pub front : Counts → ℕ → List (List ℕ) → List ℕ → List ℕ → List (List ℕ) → List ℕ → ℕ → ℕ → Tables
-front n total nodes edges choices texts bytes root space =
-    tables (take (n .nodes) nodes) (take (n .edges) edges) (take (n .choices) choices) (take (n .texts) texts) (take total bytes) (n .annotations) root space
-
--- the lent memory holds as many
-pub record Lent (n : Counts) (total : ℕ) (nodes : List (List ℕ)) (edges choices : List ℕ) (texts : List (List ℕ)) (bytes : List ℕ) : Type 0 where
-  pub nodes-there : n .nodes ≤ length nodes
-  pub edges-there : n .edges ≤ length edges
-  pub choices-there : n .choices ≤ length choices
-  pub texts-there : n .texts ≤ length texts
-  pub bytes-there : total ≤ length bytes
 
 -- what is known of the tables where 6 to 10 are tested: 1 to 5 have been
 pub record Formed (t : Tables) : Type 0 where

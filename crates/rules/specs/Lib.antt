@@ -1,4 +1,5 @@
 pub mod Told
+pub mod Tells
 pub mod References
 pub mod Texts
 pub mod Circle

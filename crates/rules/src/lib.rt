@@ -4,7 +4,7 @@ ghost use Prim.Native.Nat.{ℕ, _≤_, _<_};
 ghost use lib.ListN.{length};
 ghost use Rattle.rules.specs.Descent.{Closed};
 ghost use Rattle.rules.specs.Search.{ListsInside, GraphJudged};
-ghost use Rattle.rules.specs.Judged.{tables, front, Lent, Formed, Judged};
+ghost use Rattle.rules.specs.Judged.{tables, Formed, Judged};
 use crate::circle::circle;
 use crate::lists::lists_right;
 use crate::names::references;
@@ -81,42 +81,4 @@ pub fn judge(
         return 8;
     }
     judge_graph(nodes, edges, choices, colours, stack)
-}
-
-// The same of lent memory that may be longer than the tables in it.
-pub fn judge_front(
-    nodes: &[[u32; 8]],
-    edges: &[u32],
-    choices: &[u32],
-    texts: &[[u32; 3]],
-    bytes: &[u8],
-    n: Counts,
-    total: usize,
-    root: NodeId,
-    space: TextId,
-    colours: &mut [u8],
-    stack: &mut [u32],
-) -> u32
-    requires { ⌜ Lent n total (now nodes) (now edges) (now choices) (now texts) (now bytes) ⌝ }
-    requires { ⌜ Formed (front n total (now nodes) (now edges) (now choices) (now texts) (now bytes) (root .0) (space .0)) ⌝ }
-    requires { ⌜ n .nodes ≤ length (now colours) ⌝ }
-    requires { ⌜ n .choices ≤ length (now stack) ⌝ }
-    ensures { λ r. ⌜ Judged (front n total (now (nodes .entry)) (now (edges .entry)) (now (choices .entry)) (now (texts .entry)) (now (bytes .entry)) (root .0) (space .0)) r ⌝ }
-{
-    let node_count = n.nodes;
-    let edge_count = n.edges;
-    let choice_count = n.choices;
-    let text_count = n.texts;
-    judge(
-        &nodes[..node_count],
-        &edges[..edge_count],
-        &choices[..choice_count],
-        &texts[..text_count],
-        &bytes[..total],
-        n.annotations,
-        root,
-        space,
-        colours,
-        stack,
-    )
 }

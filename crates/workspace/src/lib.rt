@@ -427,7 +427,7 @@ pub fn complete_node(
     push_exact_result(b, s, results, start, len)
 }
 
-// The completing task, and then a child.
+// The completing task, and then a child: both by one copy of the registers (docs/BENCHMARK.md).
 pub fn push_child(
     b: Bounds,
     st: Registers,

@@ -2,7 +2,7 @@
 use mathlib.Core.Path.{refl, sym, ap, _∙_}
 use Prim.Native.Nat.{_+_}
 use native.Mathlib.Omega.{arith}
-use Rattle.plan.proofs.Uses.{room-enough, room-full}
+use Rattle.plan.specs.Uses.{room-enough, room-full}
 use Rattle.builder.proofs.Finishing.{finish-full, finish-stop, finish-go}
 use borrow.Author.Needs.{needs}
 use Rattle.builder.proofs.finish_builder.Statement.{statement}

@@ -1,5 +1,5 @@
 use native.Mathlib.Omega.{arith}
-use Rattle.rules.proofs.Tells.{tell-no, tell-le}
+use Rattle.rules.specs.Tells.{tell-no, tell-le}
 use Rattle.render.proofs.Ordered.{slots-single}
 use borrow.Author.Needs.{needs}
 use Rattle.render.proofs.order.memo_lent.Statement.{statement}

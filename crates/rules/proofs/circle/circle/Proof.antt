@@ -10,7 +10,7 @@ use native.Mathlib.Decide.{ℕ-discrete}
 use lib.Seq.{getD-set-same, getD-set-other}
 use denote.Ref.{now}
 use Rattle.rules.specs.Search.{Visited}
-use Rattle.rules.proofs.Tells.{tell-yes}
+use Rattle.rules.specs.Tells.{tell-yes}
 use Rattle.rules.proofs.Circles.{Sweep, sweep-start, sweep-visit, sweep-skip, sweep-end}
 use Rattle.rules.proofs.circle.circle.Statement.{statement}
 use Rattle.rules.proofs.circle.circle.Tie as tie

@@ -1,5 +1,5 @@
 use borrow.Author.Needs.{needs}
-use Rattle.rules.proofs.Tells.{tell-yes, tell-no}
+use Rattle.rules.specs.Tells.{tell-yes, tell-no}
 use Rattle.rules.proofs.Orders.{comes-cut, cut-comes}
 use Rattle.rules.specs.Search.{RowRight}
 use borrow.Author.Tests.{not-true, not-false}

@@ -1,5 +1,5 @@
 use Rattle.rules.proofs.Choices.{part-length, row-list}
-use Rattle.rules.proofs.Tells.{tell-yes}
+use Rattle.rules.specs.Tells.{tell-yes}
 use native.Mathlib.Omega.{arith}
 use denote.Ref.{now}
 use lib.ListN.{getD}

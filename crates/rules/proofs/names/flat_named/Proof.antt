@@ -1,5 +1,5 @@
 use Rattle.rules.proofs.ByKind.{flat-here, flat-none, flat-only}
-use Rattle.rules.proofs.Tells.{tell-yes, tell-lt}
+use Rattle.rules.specs.Tells.{tell-yes, tell-lt}
 use borrow.Author.Needs.{needs}
 use Rattle.rules.proofs.names.flat_named.Statement.{statement}
 use Rattle.rules.proofs.names.flat_named.Tie as tie

@@ -1,7 +1,7 @@
 use lib.ListN.{getD}
 use mir.Syntax.{w32}
 use mir.Val.{Fits}
-use Rattle.rules.proofs.Tells.{tell-yes, tell-le}
+use Rattle.rules.specs.Tells.{tell-yes, tell-le}
 use native.Mathlib.Omega.{arith}
 use borrow.Author.Needs.{needs}
 use Rattle.rules.proofs.names.list_named.Statement.{statement}

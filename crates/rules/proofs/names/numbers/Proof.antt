@@ -1,5 +1,5 @@
 use borrow.Author.Needs.{needs}
-use Rattle.rules.proofs.Tells.{tell-yes, tell-no}
+use Rattle.rules.specs.Tells.{tell-yes, tell-no}
 use borrow.Author.Count.{below-more}
 use lib.ListN.{length, getD}
 use Prim.Native.Nat.{ℕ, _-_, _≤_, _<_}

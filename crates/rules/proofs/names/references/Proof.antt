@@ -1,4 +1,4 @@
-use Rattle.rules.proofs.Tells.{tell-no, tell-same}
+use Rattle.rules.specs.Tells.{tell-no, tell-same}
 use borrow.Author.Tests.{not-true, not-false}
 use native.Mathlib.Omega.{arith}
 use borrow.Author.Needs.{needs}

@@ -1,5 +1,5 @@
 use borrow.Author.Needs.{needs}
-use Rattle.rules.proofs.Tells.{tell-yes, tell-no}
+use Rattle.rules.specs.Tells.{tell-yes, tell-no}
 use Rattle.rules.specs.References.{Named}
 use borrow.Author.Tests.{not-true, not-false}
 use borrow.Author.Count.{below-more}

@@ -1,5 +1,5 @@
 use Rattle.rules.proofs.Spaces.{not-one, starts-within, is-space, space-byte}
-use Rattle.rules.proofs.Tells.{tell-no, tell-eq}
+use Rattle.rules.specs.Tells.{tell-no, tell-eq}
 use denote.Ref.{now}
 use lib.ListN.{length, getD}
 use Prim.Native.Nat.{ℕ, _<_}

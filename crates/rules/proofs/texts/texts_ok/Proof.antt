@@ -1,6 +1,6 @@
 use borrow.Author.Needs.{needs}
 use Rattle.rules.proofs.Spaces.{as-text}
-use Rattle.rules.proofs.Tells.{tell-yes, tell-no}
+use Rattle.rules.specs.Tells.{tell-yes, tell-no}
 use Rattle.rules.specs.Texts.{TextOk, text-bytes}
 use borrow.Author.Tests.{not-true, not-false}
 use borrow.Author.Count.{below-more}

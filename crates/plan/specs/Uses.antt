@@ -1,7 +1,7 @@
 -- What callers go by: the arena read by number, layouts as the arena grows, the words of a pending plan.
 use mathlib.Core.Path.{_≡_, refl, sym, _∙_, ap, ap₂, subst}
 use mathlib.Core.Bool.{Bool, true, false, cond}
-use mathlib.Core.List.{List, [], _∷_, _++_}
+use mathlib.Core.List.{List, [], _∷_, _++_, append-nil}
 use Prim.Native.Nat.{ℕ, zero, suc, _+_, _≤_, _<_}
 use native.Mathlib.Numerals.{add-one}
 use native.Mathlib.Nat.{add-zero}
@@ -21,7 +21,6 @@ use Rattle.plan.specs.declared.PlanRoom.the-variants.{Enough, Full}
 use Rattle.plan.specs.Records.{nodeAt, recordOf, pendingOf}
 use Rattle.plan.specs.Arena.{arena, Pending, old, new, additions, numbered, Committing, roomFor}
 use Rattle.plan.specs.Layouts.{layoutOf, layoutsAfter, layouts, layoutAt, pendingLayout, Fine, PendingFine, Ranked}
-use Rattle.plan.proofs.Commit.{append-nil}
 
 -- ---- the arena, read by number
 
