@@ -72,15 +72,25 @@ struct Number {
     next: usize,
 }
 
-// One digit more, as long as there is room for it.
+// One digit more, as long as there is room for it: numbers up to 2^64 - 1.
 fn onward(value: u64, c: u8) -> u64 {
-    if 1000000000000000000 <= value {
-        return value;
-    }
     if c < 48 {
         return value;
     }
-    value * 10 + (c - 48) as u64
+    if 57 < c {
+        return value;
+    }
+    let digit = (c - 48) as u64;
+    if value < 1844674407370955161 {
+        return value * 10 + digit;
+    }
+    if 1844674407370955161 < value {
+        return value;
+    }
+    if 5 < digit {
+        return value;
+    }
+    value * 10 + digit
 }
 
 fn number_at(input: &[u8], from: usize) -> Number {

@@ -133,6 +133,7 @@ pub fn cases() -> Vec<Case> {
     add("HardLine in Nest 3, W 3, policy 1", line(), settings(3, 1, 1), page, none, Page("\n  ", 0, 1, None));
     add("ab, work limit 1", ab(), usual, page, Limits { work: 1, ..none }, Refused(12, 0, Some(1)));
     add("ab, work limit 2", ab(), usual, page, Limits { work: 2, ..none }, Page("ab", 0, 0, Some(2)));
+    add("ab, limits 2^64 - 1", ab(), usual, page, Limits { work: u64::MAX, visits: u64::MAX }, Page("ab", 0, 0, Some(2)));
     add("ab, memo 0", ab(), usual, Sizes { memo: 0, ..page }, none, Refused(14, 1, Some(2)));
 
     // The reader (1 to 12).
