@@ -122,7 +122,8 @@ uint32_t gannozhi_read(
     uint32_t counts[GANNOZHI_COUNTS]);
 
 /* The one file that reads back to the tables, which stay as they are: 0, or the number of the refusal (1, 3, 4, 6 to 10, 20). `size` is then the number of bytes
- * written, or for 20 needed, else 0. A refusal alters no byte of `out`; past the file they are unaltered. */
+ * written, or for 20 needed, else 0. A refusal alters no byte of `out`; past the file they are unaltered. GANNOZHI_BYTE_COUNT is not read: it is the sum of
+ * the texts' lengths. */
 uint32_t gannozhi_write(
     const uint32_t counts[GANNOZHI_COUNTS],
     uint32_t (*nodes)[8], size_t nodes_length,

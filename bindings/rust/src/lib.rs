@@ -160,14 +160,41 @@ impl std::fmt::Display for Refusal {
 
 impl std::error::Error for Refusal {}
 
-/// Memory for calls of given sizes.
-pub struct Printer {
-    sizes: Sizes,
+/// Memory for a file's tables, at their limits.
+struct Tables {
     nodes: Vec<[u32; 8]>,
     edges: Vec<u32>,
     choices: Vec<u32>,
     texts: Vec<[u32; 3]>,
     bytes: Vec<u8>,
+}
+
+impl Tables {
+    fn new() -> Tables {
+        Tables {
+            nodes: vec![[0; 8]; 4_096],
+            edges: vec![0; 16_384],
+            choices: vec![0; 16_384],
+            texts: vec![[0; 3]; 4_096],
+            bytes: vec![0; 65_536],
+        }
+    }
+
+    fn lend(&mut self) -> TableMemory<'_> {
+        TableMemory {
+            nodes: &mut self.nodes,
+            edges: &mut self.edges,
+            choices: &mut self.choices,
+            texts: &mut self.texts,
+            bytes: &mut self.bytes,
+        }
+    }
+}
+
+/// Memory for calls of given sizes.
+pub struct Printer {
+    sizes: Sizes,
+    tables: Tables,
     tasks: Vec<[u32; 9]>,
     results: Vec<[u32; 2]>,
     pending: Vec<[u64; 7]>,
@@ -186,11 +213,7 @@ impl Printer {
     pub fn new(sizes: Sizes) -> Printer {
         Printer {
             sizes,
-            nodes: vec![[0; 8]; 4_096],
-            edges: vec![0; 16_384],
-            choices: vec![0; 16_384],
-            texts: vec![[0; 3]; 4_096],
-            bytes: vec![0; 65_536],
+            tables: Tables::new(),
             tasks: vec![[0; 9]; sizes.stack as usize],
             results: vec![[0; 2]; sizes.stack as usize],
             pending: vec![[0; 7]; sizes.stack as usize],
@@ -212,24 +235,11 @@ impl Printer {
 
     /// The file is read into the printer's tables; only their counts are handed out.
     pub fn read(&mut self, file: &[u8]) -> Result<TableCounts, u32> {
-        let tables = TableMemory {
-            nodes: &mut self.nodes,
-            edges: &mut self.edges,
-            choices: &mut self.choices,
-            texts: &mut self.texts,
-            bytes: &mut self.bytes,
-        };
-        read_lent(file, tables)
+        read_lent(file, self.tables.lend())
     }
 
     pub fn render(&mut self, file: &[u8], settings: &Settings, limits: &Limits) -> Result<Page<'_>, Refusal> {
-        let tables = TableMemory {
-            nodes: &mut self.nodes,
-            edges: &mut self.edges,
-            choices: &mut self.choices,
-            texts: &mut self.texts,
-            bytes: &mut self.bytes,
-        };
+        let tables = self.tables.lend();
         let solver = SolverMemory {
             tasks: &mut self.tasks,
             results: &mut self.results,
