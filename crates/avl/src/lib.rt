@@ -5,7 +5,7 @@ ghost use Prim.Native.Nat.{suc, max, _+_, _*_, _<_};
 ghost use Rattle.avl.specs.Mem.{word, put, At};
 ghost use Rattle.avl.specs.Tree.{ht, rot-l, rot-r, tilt-l, tilt-r, bal, ins, join, Seen};
 ghost use Rattle.avl.specs.Tree.Tree.{node};
-ghost use Rattle.avl.specs.Links.{link-of, Nearest};
+ghost use Rattle.avl.specs.Links.{link-of};
 ghost use Rattle.avl.specs.Holds.{top, Held, Spot, SpotL, SpotR, Made, Laid, Room, GraftL, GraftR, Full, Cut, Pair, Has, Gone, cleared, Whole, nil};
 
 const NIL: u64 = 18446744073709551615;
@@ -296,14 +296,15 @@ pub fn linked(x: u64) -> Link
     Link::Slot(x)
 }
 
-// The words of a search: the slot of the column, of the last lower one on the way there, and of the least at it or above.
-struct Way {
-    same: u64,
-    before: u64,
-    from: u64,
+// The words of a search, NIL for none: the slot of the column; of the last lower column on the way there, which is the nearest where the
+// column is not there; and of the least column at it or above.
+pub struct Way {
+    pub same: u64,
+    pub before: u64,
+    pub from: u64,
 }
 
-fn search(f: &[u64], root: u64, column: u64) -> Way
+pub fn search(f: &[u64], root: u64, column: u64) -> Way
     requires { ⌜ Whole (now f) root ⌝ }
     ensures { λ d. ⌜ ((p : Whole (now (f .entry)) root) → Seen column (p .t) nil nil nil (d .same) (d .before) (d .from)) ⌝ }
 {
@@ -330,27 +331,5 @@ fn search(f: &[u64], root: u64, column: u64) -> Way
         same: NIL,
         before,
         from,
-    }
-}
-
-// The slot of a column; of the last lower column on the way there, which is the nearest where the column is not there; and of the least column at it or above.
-pub struct Nearby {
-    pub same: Link,
-    pub predecessor: Link,
-    pub lower_bound: Link,
-}
-
-pub fn neighbors(f: &[u64], root: u64, column: u64) -> Nearby
-    requires { ⌜ Whole (now f) root ⌝ }
-    ensures { λ d. ⌜ ((p : Whole (now (f .entry)) root) → Nearest column (p .t) (d .same) (d .predecessor) (d .«lower_bound»)) ⌝ }
-{
-    let way = search(f, root, column);
-    let same = linked(way.same);
-    let predecessor = linked(way.before);
-    let lower_bound = linked(way.from);
-    Nearby {
-        same,
-        predecessor,
-        lower_bound,
     }
 }

@@ -1,7 +1,7 @@
 -- A presented candidate: pruned, refused, or in, with what it removes out.
 use mathlib.Core.Path.{_≡_, refl, sym, _∙_, ap, subst}
 use mathlib.Core.Logic.{_≢_, _⊎_, inl, inr, ⊎-elim}
-use mathlib.Core.Bool.{Bool, true, false, not}
+use mathlib.Core.Bool.{true, false, not}
 use mathlib.Core.List.{List, [], _∷_, _++_, map, append-nil}
 use Prim.Native.Nat.{ℕ, _+_, _-_, _≤_, _<_}
 use native.Mathlib.Omega.{arith}
@@ -16,8 +16,9 @@ use Rattle.avl.specs.Tree.Tree.{leaf, node}
 use Rattle.avl.specs.Members.{In}
 use Rattle.avl.specs.Slots.{in-case, out-in}
 use Rattle.frontier.specs.declared.Builder.{Builder}
+use Rattle.frontier.specs.declared.Effect.{Effect}
 use Rattle.frontier.specs.Candidates.{Pending, cost-at, candidate-at, survivors}
-use Rattle.frontier.specs.Kept.{Kept, Frontier, Admit, Admitted, Fresh, Sifted, Crowded, After, Refused, prunes, stays-by}
+use Rattle.frontier.specs.Kept.{Kept, Frontier, Admit, Admitted, Effects, Fresh, Sifted, After, Refused, prunes, stays-by}
 use Rattle.frontier.specs.Walk.{map-length, survive, survive-length, present-pruned, present-kept}
 use Rattle.frontier.proofs.Covering.{covers-same, goes-dear, stay-le, stay-ge, any-none, keep-in, any-map, keep-map, map-append, map-same}
 use Rattle.frontier.proofs.Searching.{col, kept-in}
@@ -34,21 +35,31 @@ module _ {m : List ℕ} {b : Builder} (p : Kept m b) (x : Cand Pending) where
   rule-kept e = present-kept (survivors m b) x (any-is ∙ e) ∙ ap (λ z. z ++ x ∷ []) (ap (λ z. keep (λ k. not (covers x k)) z) (survive p) ∙ keep-map (λ k. not (covers x k)) (candidate-at m) (p .order))
 
 module _ {m : List ℕ} {size : ℕ} {b : Builder} (p : Frontier m size b) (x : Cand Pending) where
-  pub was-pruned : {r : Bool} → r ≡ any (prunes m x) (p .sound .kept .order) → r ≡ true → After m m size b b x 1
-  was-pruned e h = record { frontier = p; survivors-are = sym (rule-pruned (p .sound .kept) x (sym e ∙ h)); pruned-is = omega (arith, ap (λ z. length z) (rule-pruned (p .sound .kept) x (sym e ∙ h))) }
+  -- what is known of each effect
+  pub as-told : {r q : Effect} → Effects m x (p .sound .kept .order) r → r ≡ q → Effects m x (p .sound .kept .order) q
+  as-told e t = subst (λ z. Effects m x (p .sound .kept .order) z) t e
 
-  abbrev pub fresh-by : {r : Bool} → r ≡ any (prunes m x) (p .sound .kept .order) → r ≡ false → Fresh m b x
-  fresh-by e h = record { sound = p .sound; none = sym e ∙ h }
+  pub was-pruned : any (prunes m x) (p .sound .kept .order) ≡ true → After m m size b b x 1
+  was-pruned e = record { frontier = p; survivors-are = sym (rule-pruned (p .sound .kept) x e); pruned-is = omega (arith, ap (λ z. length z) (rule-pruned (p .sound .kept) x e)) }
+
+  abbrev pub fresh : any (prunes m x) (p .sound .kept .order) ≡ false → Fresh m b x
+  fresh n = record { sound = p .sound; none = n }
 
   pub live-le : b .live ≤ size
   live-le = omega (arith, p .sound .kept .count, p .sound .kept .sum, p .within)
 
-  pub refused : {r : Bool} → any (prunes m x) (p .sound .kept .order) ≡ false → Crowded m size b x (p .sound .kept .order) r → r ≡ true → Refused m m size b x (b .live + 1)
-  refused n c h = record { same = refl; more = omega (arith, c .full h .0, p .sound .kept .count, long); needed-is = omega (arith, p .sound .kept .count, long); live-is = omega (arith, survive-length (p .sound .kept)) }
-    where
-      long : length (present covers (survivors m b) x) ≡ length (p .sound .kept .order) + 1
-      long = ap (λ z. length z) (rule-kept (p .sound .kept) x n) ∙ (length-append (map (candidate-at m) (keep (stays-by m x) (p .sound .kept .order))) (x ∷ [])
-          ∙ ap (λ z. z + 1) (map-length (candidate-at m) (keep (stays-by m x) (p .sound .kept .order)) ∙ ap (λ z. length z) (c .full h .1)))
+  module _ (n : any (prunes m x) (p .sound .kept .order) ≡ false) (all : keep (stays-by m x) (p .sound .kept .order) ≡ p .sound .kept .order) where
+    -- x removes none, and there is no room for it
+    pub refused : size ≤ b .live → Refused m m size b x (b .live + 1)
+    refused h = record { same = refl; more = omega (arith, h, p .sound .kept .count, long); needed-is = omega (arith, p .sound .kept .count, long); live-is = omega (arith, survive-length (p .sound .kept)) }
+      where
+        long : length (present covers (survivors m b) x) ≡ length (p .sound .kept .order) + 1
+        long = ap (λ z. length z) (rule-kept (p .sound .kept) x n) ∙ (length-append (map (candidate-at m) (keep (stays-by m x) (p .sound .kept .order))) (x ∷ [])
+            ∙ ap (λ z. z + 1) (map-length (candidate-at m) (keep (stays-by m x) (p .sound .kept .order)) ∙ ap (λ z. length z) all))
+
+    -- nothing need be taken out
+    abbrev pub as-it-is : Sifted m m b b x (p .sound .kept .order)
+    as-it-is = record { sound = p .sound; order-is = sym all; used-is = refl; fewer = omega arith; len = refl; rest = λ s j l. refl }
 
 pub off-by : (k : ℕ) (t : Tree) → ((x : ℕ) → Entry x k t → ⊥) → Off k t
 off-by k leaf f = tt
@@ -73,11 +84,11 @@ module _ {m : List ℕ} {size : ℕ} {b : Builder} (p : Frontier m size b) (x : 
       let q : word m y 3 ≡ x .column = sym (z .rest y 3 (lit< tt)) ∙ col (z .sound) y (x .column) e in
       no-both (covers x (candidate-at m y)) (goes-dear x (candidate-at m y) (omega arith) (sym (covers-same (candidate-at m y) x q) ∙ not-by y i)) (not-true (covers x (candidate-at m y)) (was y i .1))
 
-  pub few-left : {r : Bool} → Crowded m size b x (p .sound .kept .order) r → r ≡ false → b₁ .live < size
-  few-left c h = omega (arith, z .sound .kept .count, ap (λ w. length w) (z .order-is), c .free (live-le p x) h)
+  pub few-left : length (keep (stays-by m x) (p .sound .kept .order)) < length (p .sound .kept .order) → b₁ .live < size
+  few-left h = omega (arith, h, z .sound .kept .count, ap (λ w. length w) (z .order-is), p .sound .kept .count, live-le p x)
 
-  abbrev pub room : {r : Bool} → Crowded m size b x (p .sound .kept .order) r → r ≡ false → Admit m₁ b₁ (x .column)
-  room c h = record { roomy = record { size = size; kept = z .sound .kept; few = few-left c h; within = omega (arith, z .used-is, p .within); room = omega (arith, z .len, p .room); bound = p .bound }; off = off-by (x .column) (z .sound .kept .t) new }
+  abbrev pub room : b₁ .live < size → Admit m₁ b₁ (x .column)
+  room h = record { roomy = record { size = size; kept = z .sound .kept; few = h; within = omega (arith, z .used-is, p .within); room = omega (arith, z .len, p .room); bound = p .bound }; off = off-by (x .column) (z .sound .kept .t) new }
 
   module _ {m₂ : List ℕ} {b₂ : Builder} (u : Admitted m₁ m₂ size b₁ b₂ x (z .sound .kept .order)) where
     other : (y : ℕ) → In y (z .sound .kept .order) → y ≢ u .s
@@ -110,9 +121,9 @@ module _ {m : List ℕ} {size : ℕ} {b : Builder} (p : Frontier m size b) (x : 
         ∙ (ap (λ w. map (candidate-at m) (z .sound .kept .order) ++ w ∷ []) (u .own)
         ∙ (ap (λ w. map (candidate-at m) w ++ x ∷ []) (z .order-is) ∙ sym (rule-kept (p .sound .kept) x n))))))
 
-    pub joined : After m m₂ size b b₂ x (b .live - b₁ .live)
-    joined = record {
+    pub joined : {k : ℕ} → k ≡ b .live - b₁ .live → After m m₂ size b b₂ x k
+    joined {k} e = record {
       frontier = record { sound = record { kept = u .kept; falls = λ y v i j h. pairs y v (which y i) (which v j) h }; within = u .within; room = omega (arith, u .len, z .len, p .room); bound = p .bound };
       survivors-are = listed;
-      pruned-is = omega (arith, ap (λ w. length w) listed, survive-length (u .kept), survive-length (p .sound .kept), live-is, z .fewer);
+      pruned-is = omega (arith, e, ap (λ w. length w) listed, survive-length (u .kept), survive-length (p .sound .kept), live-is, z .fewer);
     }

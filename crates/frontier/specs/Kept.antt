@@ -1,17 +1,22 @@
 -- The frontier in memory: the tree, the order of presentation of the same slots, and the slots that are free again; what the functions are asked and what they give.
 use mathlib.Core.Path.{_≡_}
 use mathlib.Core.Logic.{_≢_}
-use mathlib.Core.Bool.{Bool, true, false, not}
+use mathlib.Core.Bool.{Bool, true, false, not, _||_}
 use mathlib.Core.List.{List, [], _∷_, _++_}
 use Prim.Native.Nat.{ℕ, suc, _+_, _*_, _≤_, _<_}
 use lib.ListN.{length}
+use lib.Dec.{eqb}
+use Rattle.cost.specs.Cost.{Cost, cheap}
 use Rattle.cost.specs.Order.{Cheap}
 use Rattle.layout.specs.Frontier.{Cand, covers, any, keep, present}
 use Rattle.avl.specs.Mem.{word, At}
-use Rattle.avl.specs.Tree.{Tree, Ord, Avl, On, Off, slot-of, slots}
+use Rattle.avl.specs.Tree.{Tree, Ord, Avl, On, Off, slot-of, slots, Seen}
 use Rattle.avl.specs.Members.{In, Out, Once, Apart, Same, Place}
 use Rattle.avl.specs.Holds.{nil, top, Holds}
+use Rattle.avl.specs.declared.Way.{Way}
 use Rattle.frontier.specs.declared.Builder.{Builder}
+use Rattle.frontier.specs.declared.Effect.{Effect}
+use Rattle.frontier.specs.declared.Effect.the-variants.{Pruned, Beside, Removing}
 use Rattle.frontier.specs.declared.Presented.{Presented}
 use Rattle.frontier.specs.declared.Presented.the-variants.{Done, Exhausted}
 use Rattle.frontier.specs.Candidates.{Pending, cost-at, candidate-at, survivors, pruned-by}
@@ -134,6 +139,22 @@ prunes m x s = covers (candidate-at m s) x
 abbrev pub stays-by : List ℕ → Cand Pending → ℕ → Bool
 stays-by m x s = not (covers x (candidate-at m s))
 
+-- s is no slot, or its candidate costs no more than c
+unfoldable pub none-dearer : List ℕ → ℕ → Cost → Bool
+none-dearer m s c = eqb s nil || cheap (cost-at m s) c
+
+-- what a search of a frontier for the column found
+pub record Looked (m : List ℕ) (column : ℕ) (way : Way) : Type 0 where
+  pub b : Builder
+  pub sound : Sound m b
+  pub seen : Seen column (sound .kept .t) nil nil nil (way .same) (way .before) (way .from)
+
+-- what x does to the candidates of the order
+abbrev pub Effects : List ℕ → Cand Pending → List ℕ → Effect → Type 0
+Effects m x order Pruned = any (prunes m x) order ≡ true
+Effects m x order Beside = (any (prunes m x) order ≡ false) × (keep (stays-by m x) order ≡ order)
+Effects m x order Removing = (any (prunes m x) order ≡ false) × (length (keep (stays-by m x) order) < length order)
+
 -- none that is kept prunes x
 pub record Fresh (m : List ℕ) (b : Builder) (x : Cand Pending) : Type 0 where
   pub sound : Sound m b
@@ -147,11 +168,6 @@ pub record Sifted (m n : List ℕ) (b b′ : Builder) (x : Cand Pending) (order 
   pub fewer : b′ .live ≤ b .live
   pub len : length n ≡ length m
   pub rest : (s j : ℕ) → j < 8 → word n s j ≡ word m s j
-
--- r: the frontier with x would have more than its size
-pub record Crowded (m : List ℕ) (size : ℕ) (b : Builder) (x : Cand Pending) (order : List ℕ) (r : Bool) : Type 0 where
-  pub full : r ≡ true → (size ≤ b .live) × (keep (stays-by m x) order ≡ order)
-  pub free : b .live ≤ size → r ≡ false → length (keep (stays-by m x) order) < size
 
 -- ---- the answer to a presented candidate
 pub record After (m n : List ℕ) (size : ℕ) (b b′ : Builder) (x : Cand Pending) (pruned : ℕ) : Type 0 where

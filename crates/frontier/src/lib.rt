@@ -3,17 +3,20 @@
 mod order;
 
 use avl::Link;
+use avl::Way;
 use avl::get;
 use avl::store;
 use cost::ConsumerCost;
 ghost use mathlib.Core.Path.{_≡_};
+ghost use mathlib.Core.Logic.{_≢_};
 ghost use Rattle.cost.specs.Cost.{cheap, cheaper};
 ghost use Rattle.cost.specs.Value.{value};
 ghost use Rattle.layout.specs.Frontier.{any};
 ghost use Rattle.avl.specs.Mem.{word, At};
+ghost use Rattle.avl.specs.Holds.{nil};
 ghost use Rattle.avl.specs.Links.{link-of};
 ghost use Rattle.frontier.specs.Candidates.{carried, cost-at, candidate-at, next, written-cost, written-plan, Stands};
-ghost use Rattle.frontier.specs.Kept.{Sound, Frontier, Opened, Drop, Dropped, Roomy, Taken, Filled, Admit, Admitted, prunes, Fresh, Sifted, Crowded, Presents};
+ghost use Rattle.frontier.specs.Kept.{Sound, Frontier, Opened, Drop, Dropped, Roomy, Taken, Filled, Admit, Admitted, prunes, none-dearer, Looked, Effects, Fresh, Sifted, Presents};
 
 const NIL: u64 = 18446744073709551615;
 
@@ -151,40 +154,60 @@ fn beats(f: &[u64], s: u64, cost: ConsumerCost) -> bool
     kept.less(cost)
 }
 
-// Whether a kept candidate prunes the presented one. Where one is kept at its column no lower one need be asked: none costs less than that.
-fn dominated(f: &[u64], b: Builder, candidate: ScratchCandidate) -> bool
-    requires { ⌜ Sound (now f) b ⌝ }
-    ensures { λ r. ⌜ ((p : Sound (now (f .entry)) b) → r ≡ any (prunes (now (f .entry)) (carried candidate)) (p .kept .order)) ⌝ }
+// ---- what a presented candidate does
+
+// Whether a kept candidate prunes the presented one, by a search for its column. Where one is kept at its column no lower one need be asked:
+// none costs less than that.
+fn covered(f: &[u64], way: Way, candidate: ScratchCandidate) -> bool
+    requires { ⌜ Looked (now f) (candidate .last) way ⌝ }
+    ensures { λ r. ⌜ ((p : Looked (now (f .entry)) (candidate .last) way) → r ≡ any (prunes (now (f .entry)) (carried candidate)) (p .sound .kept .order)) ⌝ }
 {
     let cost = candidate.cost;
-    let near = avl::neighbors(f, b.root, candidate.last as u64);
-    let same = near.same;
-    let predecessor = near.predecessor;
-    if let Link::Slot(s) = same {
-        return stays(f, s, cost);
+    if way.same != NIL {
+        return stays(f, way.same, cost);
     }
-    if let Link::Slot(s) = predecessor {
-        return beats(f, s, cost);
+    if way.before != NIL {
+        return beats(f, way.before, cost);
     }
     false
 }
 
-// Whether the frontier would have more than its size with the candidate: it is full, and the candidate removes none.
-fn exhausted(f: &[u64], size: u64, b: Builder, candidate: ScratchCandidate) -> bool
-    requires { ⌜ Fresh (now f) b (carried candidate) ⌝ }
-    ensures { λ r. ⌜ ((p : Fresh (now (f .entry)) b (carried candidate)) → Crowded (now (f .entry)) size b (carried candidate) (p .sound .kept .order) r) ⌝ }
+// Whether there is no slot s, or its candidate costs no more. Where s has the least column from a candidate's own on, this holds of all from
+// there on: none costs more than that.
+fn none_dearer(f: &[u64], s: u64, cost: ConsumerCost) -> bool
+    requires { ⌜ (s ≢ nil → At (now f) s) ⌝ }
+    ensures { λ r. ⌜ r ≡ none-dearer (now (f .entry)) s (value cost) ⌝ }
 {
-    if b.live < size {
-        return false;
+    if s == NIL {
+        return true;
     }
-    let cost = candidate.cost;
-    let near = avl::neighbors(f, b.root, candidate.last as u64);
-    let lower_bound = near.lower_bound;
-    if let Link::Slot(s) = lower_bound {
-        return stays(f, s, cost);
-    }
-    true
+    stays(f, s, cost)
 }
+
+// One of those that are kept prunes it; it comes beside them all; or it removes some.
+enum Effect {
+    Pruned,
+    Beside,
+    Removing,
+}
+
+// One search for the candidate's column tells all.
+fn weigh(f: &[u64], b: Builder, candidate: ScratchCandidate) -> Effect
+    requires { ⌜ Sound (now f) b ⌝ }
+    ensures { λ r. ⌜ ((p : Sound (now (f .entry)) b) → Effects (now (f .entry)) (carried candidate) (p .kept .order) r) ⌝ }
+{
+    let cost = candidate.cost;
+    let way = avl::search(f, b.root, candidate.last as u64);
+    if covered(f, way, candidate) {
+        return Effect::Pruned;
+    }
+    if none_dearer(f, way.from, cost) {
+        return Effect::Beside;
+    }
+    Effect::Removing
+}
+
+// ---- candidates out and in
 
 // Takes the candidate of the column out, and keeps its slot as a free one.
 fn discard(f: &mut [u64], b: Builder, column: u64) -> Builder
@@ -223,12 +246,9 @@ fn prune(f: &mut [u64], builder: Builder, candidate: ScratchCandidate) -> Builde
     let last = candidate.last as u64;
     let mut b = builder;
     loop {
-        let near = avl::neighbors(f, b.root, last);
-        let lower_bound = near.lower_bound;
-        let Link::Slot(s) = lower_bound else {
-            return b;
-        };
-        if stays(f, s, cost) {
+        let way = avl::search(f, b.root, last);
+        let s = way.from;
+        if none_dearer(f, s, cost) {
             return b;
         }
         let column = get(f, s, LAST);
@@ -292,22 +312,28 @@ fn admit(f: &mut [u64], b: Builder, candidate: ScratchCandidate) -> Builder
     }
 }
 
-// Presents a candidate to a frontier of at most `size` candidates.
+// Presents a candidate to a frontier of at most `size` candidates. Where it removes some there is room for it.
 pub fn present(f: &mut [u64], size: u64, b: Builder, candidate: ScratchCandidate) -> Presented
     requires { ⌜ Frontier (now f) size b ⌝ }
     ensures { λ r. ⌜ Presents (now (f .entry)) (now (f .exit)) size b (carried candidate) r ⌝ }
 {
-    if dominated(f, b, candidate) {
-        return Presented::Done(b, 1);
+    match weigh(f, b, candidate) {
+        Effect::Pruned => Presented::Done(b, 1),
+        Effect::Beside => {
+            if size <= b.live {
+                let needed = b.live + 1;
+                return Presented::Exhausted(needed);
+            }
+            let after = admit(f, b, candidate);
+            Presented::Done(after, 0)
+        }
+        Effect::Removing => {
+            let left = prune(f, b, candidate);
+            let removed = b.live - left.live;
+            let after = admit(f, left, candidate);
+            Presented::Done(after, removed)
+        }
     }
-    if exhausted(f, size, b, candidate) {
-        let needed = b.live + 1;
-        return Presented::Exhausted(needed);
-    }
-    let left = prune(f, b, candidate);
-    let removed = b.live - left.live;
-    let after = admit(f, left, candidate);
-    Presented::Done(after, removed)
 }
 
 // ---- the survivors, in order of presentation (finish_builder walks them)

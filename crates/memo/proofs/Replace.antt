@@ -71,6 +71,7 @@ module _ (ss : List ℕ) (es es′ : List (List ℕ)) (n : ℕ) (len : length es
 
   still : Sound ss es n → Sound ss es′ n
   still T = record {
+    power = T .power;
     room = omega (arith, T .room);
     within = λ k l. rw (at k) (T .within k l);
     named = λ k l. rw (at k) (T .named k l);

@@ -3,26 +3,18 @@ use mathlib.Core.Path.{_≡_, sym, _∙_, ap, subst}
 use mathlib.Core.Bool.{Bool, true, false}
 use mathlib.Core.List.{List}
 use mathlib.Core.Logic.{⊎-elim}
-use Prim.Native.Nat.{ℕ, _+_, _%_, _<_}
-use native.Mathlib.Nat.{add-zero, add-assoc, mod-mod, mod-add-mod}
+use Prim.Native.Nat.{ℕ, _+_, _-_, _%_, _<_}
+use native.Mathlib.Nat.{add-zero, add-assoc, mod-lt, mod-mod, mod-add-mod}
 use native.Mathlib.Omega.{arith}
+use lib.Bits.{bitAnd, and-mask}
 use lib.ListN.{length, getD}
+use lib.Pow.{pow-pos}
 use Rattle.memo.specs.declared.MemoKey.{MemoKey}
 use Rattle.memo.specs.Hash.{hashOf}
 use Rattle.memo.specs.Entries.{word, keyAt}
-use Rattle.memo.specs.Index.{place, Live, Path, Sound, Named, Told, Passed}
+use Rattle.memo.specs.Index.{Power, place, Live, Path, Sound, Named, Told, Passed}
 use Rattle.memo.proofs.Pigeon.{less?, pigeon, place-single}
 use Rattle.memo.proofs.Lookup.{no-both, key-of}
-
--- any memory is sound at 0 entries
-pub fresh : (ss : List ℕ) (es : List (List ℕ)) → Sound ss es 0
-fresh ss es = record {
-  room = omega arith;
-  within = λ k h. absurd (omega arith);
-  named = λ k h. absurd (omega arith);
-  path = λ k h. absurd (omega arith);
-  single = λ k j h g p. absurd (omega arith);
-}
 
 pub told-no : {es : List (List ℕ)} {k : ℕ} {key : MemoKey} → (keyAt es k ≡ key → ⊥) → Told es k key false
 told-no h = record { yes = λ e. absurd (no-both (sym e)); no = λ e. h }
@@ -30,9 +22,20 @@ told-no h = record { yes = λ e. absurd (no-both (sym e)); no = λ e. h }
 pub told-yes : (es : List (List ℕ)) (k : ℕ) (key : MemoKey) → word es k 0 ≡ key .node → word es k 1 ≡ key .column → word es k 2 ≡ key .indent → Told es k key true
 told-yes es k key p q r = record { yes = λ e. key-of (keyAt es k) key p q r; no = λ e w. no-both e }
 
-pub start : (r h m : ℕ) → r ≡ h → r % m ≡ place h 0 m
+-- a power of two is not 0
+pub some : {m : ℕ} → Power m → 0 < m
+some p = rw (p .is) (pow-pos (p .exponent))
+
+-- the mask that `find` takes is the remainder
+masked : (h m : ℕ) → Power m → bitAnd h (m - 1) ≡ h % m
+masked h m p = subst (λ z. bitAnd h (z - 1) ≡ h % z) (sym (p .is)) (and-mask h (p .exponent))
+
+pub start : (r h m : ℕ) → Power m → r ≡ h → bitAnd r (m - 1) ≡ place h 0 m
 unfolding place
-start r h m e = rw (e, add-zero (h % m), mod-mod h m)
+start r h m p e = rw (e, masked h m p, add-zero (h % m), mod-mod h m)
+
+pub start-low : (r m : ℕ) → Power m → bitAnd r (m - 1) < m
+start-low r m p = rw (masked r m p) (mod-lt r (some p))
 
 pub next-place : (h t m : ℕ) → (place h t m + 1) % m ≡ place h (t + 1) m
 unfolding place

@@ -4,7 +4,8 @@ use mathlib.Core.Bool.{Bool, true, false}
 use mathlib.Core.List.{List, [], _∷_, _++_}
 use mathlib.Core.List.{List·Memᴰ as In, List·Memᴰ·head as here, List·Memᴰ·tail as there}
 use mathlib.Core.Logic.{⊎-elim}
-use Prim.Native.Nat.{ℕ, zero, suc, _+_, _*_, _^_, _≤_}
+use Prim.Native.Nat.{ℕ, zero, suc, _+_, _*_, _^_, _≤_, _<_}
+use native.Mathlib.Nat.{pow-suc}
 use native.Mathlib.Numerals.{add-one}
 use lib.ListN.{length, length-append}
 use native.Mathlib.Omega.{arith}
@@ -16,7 +17,7 @@ use Rattle.memo.specs.declared.MemoLookup.{MemoLookup}
 use Rattle.memo.specs.declared.MemoLookup.the-variants.{Found, Nothing}
 use Rattle.memo.specs.Sizes.{Least, SlotsFor}
 use Rattle.memo.specs.Entries.{pick, Entry, same, lookup, stored, entry, listed}
-use Rattle.memo.specs.Index.{Entered, Refused, InsertionIs, Insertion}
+use Rattle.memo.specs.Index.{Power, Sound, Entered, Refused, InsertionIs, Insertion}
 use Rattle.memo.proofs.Pigeon.{less?, equal?}
 use Rattle.memo.proofs.Lookup.{no-both, pick-none, same-self, same-key}
 use Rattle.memo.proofs.Replace.{store-new}
@@ -99,8 +100,26 @@ least-single {e} p q =
     (less? (p .k) (q .k))
 
 -- as many slots as `memo_slots_for` says are enough for `memo_insert`
-pub slots-enough : {e s : ℕ} → SlotsFor e s → (m : ℕ) → s ≤ m → e ≤ m
-slots-enough {e} p m h = ⊎-elim (λ z. omega arith) (λ ne. omega (arith, p .some ne .room)) (equal? e 0)
+pub slots-enough : {e s : ℕ} → SlotsFor e s → e ≤ s
+slots-enough {e} p = ⊎-elim (λ z. omega arith) (λ ne. omega (arith, p .some ne .room)) (equal? e 0)
+
+slots-power : {e s : ℕ} → SlotsFor e s → 0 < s → Power s
+slots-power {e} p h =
+    ⊎-elim (λ z. absurd (omega (arith, p .none z)))
+    (λ ne. let l = p .some ne in
+    record { exponent = suc (suc (suc (l .k))); is = omega (arith, l .power, pow-suc 2 (l .k), pow-suc 2 (suc (l .k)), pow-suc 2 (suc (suc (l .k)))) })
+    (equal? e 0)
+
+-- in as many slots any memory is sound at 0 entries
+pub fresh : {e : ℕ} (ss : List ℕ) (es : List (List ℕ)) → SlotsFor e (length ss) → Sound ss es 0
+fresh ss es p = record {
+  power = slots-power p;
+  room = omega arith;
+  within = λ k h. absurd (omega arith);
+  named = λ k h. absurd (omega arith);
+  path = λ k h. absurd (omega arith);
+  single = λ k j h g q. absurd (omega arith);
+}
 
 -- ---- for the invariant of a caller: what holds of each entry
 

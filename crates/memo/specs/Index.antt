@@ -2,7 +2,7 @@
 use mathlib.Core.Path.{_≡_}
 use mathlib.Core.Bool.{Bool, true, false}
 use mathlib.Core.List.{List}
-use Prim.Native.Nat.{ℕ, _<_, _≤_, _+_, _%_}
+use Prim.Native.Nat.{ℕ, _<_, _≤_, _+_, _%_, _^_}
 use lib.ListN.{length, getD}
 use Rattle.memo.specs.Hash.{hashOf}
 use Rattle.memo.specs.Entries.{Entry, stored, word, keyAt, listed}
@@ -11,6 +11,11 @@ use Rattle.memo.specs.declared.MemoInsertion.{MemoInsertion}
 use Rattle.memo.specs.declared.MemoInsertion.the-variants.{Inserted, Full}
 use Rattle.memo.specs.declared.Spot.{Spot}
 use Rattle.memo.specs.declared.Spot.the-variants.{Free, Taken, Nowhere}
+
+-- a power of two: the remainder by it is a mask
+pub record Power (m : ℕ) : Type 0 where
+  pub exponent : ℕ
+  pub is : m ≡ 2 ^ exponent
 
 -- slot s names one of the first n entries, which names it back
 pub record Live (ss : List ℕ) (es : List (List ℕ)) (n s : ℕ) : Type 0 where
@@ -28,8 +33,9 @@ pub record Path (ss : List ℕ) (es : List (List ℕ)) (n m h s : ℕ) : Type 0 
   pub ends : place h far m ≡ s
   pub full : (j : ℕ) → j < far → Live ss es n (place h j m)
 
--- each of the first n entries stands at its slot, a search comes there, and no key has two
+-- each of the first n entries stands at its slot, a search comes there, and no key has two; the slots, if there are any, are a power of two
 pub record Sound (ss : List ℕ) (es : List (List ℕ)) (n : ℕ) : Type 0 where
+  pub power : 0 < length ss → Power (length ss)
   pub room : n ≤ length es
   pub within : (k : ℕ) → k < n → word es k 5 < length ss
   pub named : (k : ℕ) → k < n → getD ss (word es k 5) 0 ≡ k

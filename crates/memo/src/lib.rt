@@ -2,13 +2,12 @@
 // It stands in lent memory that may hold anything at the start of a call: a dense list of entries, and an index whose slot is
 // believed only where it names one of this call's entries and that entry names the slot back.
 ghost use mathlib.Core.Path.{_≡_};
-ghost use mathlib.Core.List.{[]};
 ghost use Prim.Native.Nat.{_+_, _*_, _%_, _^_, _≤_, _<_};
 ghost use lib.ListN.{length};
 ghost use Rattle.memo.specs.Hash.{mixOf, hashOf};
 ghost use Rattle.memo.specs.Sizes.{SlotsFor};
 ghost use Rattle.memo.specs.Entries.{lookup, listed};
-ghost use Rattle.memo.specs.Index.{Sound, Named, Told, Spotted, Insertion};
+ghost use Rattle.memo.specs.Index.{Power, Sound, Named, Told, Spotted, Insertion};
 
 pub struct MemoKey {
     pub node: u32,
@@ -128,17 +127,14 @@ fn after(s: usize, n: usize) -> usize
     0
 }
 
-// The search, from the key's own slot on. It ends after as many turns as there are slots.
+// The search, from the key's own slot on, which the mask of a power of two gives. It ends after as many turns as there are slots.
 fn find(slots: &[u64], entries: &[[u64; 6]], count: usize, key: MemoKey) -> Spot
-    requires { ⌜ count ≤ length (now entries) ⌝ }
+    requires { ⌜ (count ≤ length (now entries)) × Power (length (now slots)) ⌝ }
     ensures { λ r. ⌜ Spotted (now (slots .entry)) (now (entries .entry)) count key r ⌝ }
 {
     let n = slots.len();
-    if n == 0 {
-        return Spot::Nowhere;
-    }
     let hash = memo_hash(key) as usize;
-    let mut s = hash % n;
+    let mut s = hash & (n - 1);
     let mut t: usize = 0;
     while t < n {
         let k = named(slots, entries, count, s);
@@ -152,13 +148,6 @@ fn find(slots: &[u64], entries: &[[u64; 6]], count: usize, key: MemoKey) -> Spot
         t += 1;
     }
     Spot::Nowhere
-}
-
-// The number of entries at the start of a call. Nothing is cleared and nothing is read.
-pub fn memo_open(slots: &[u64], entries: &[[u64; 6]]) -> usize
-    ensures { λ r. ⌜ (Sound (now (slots .entry)) (now (entries .entry)) r) × (listed (now (entries .entry)) r ≡ []) ⌝ }
-{
-    0
 }
 
 // The range that was entered for the key. While there is no entry, and so at size 0, no memory is touched.

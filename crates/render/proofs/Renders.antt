@@ -3,12 +3,14 @@ use mathlib.Core.Path.{_≡_, refl, subst}
 use mathlib.Core.List.{List}
 use Prim.Native.Nat.{ℕ, _≤_}
 use native.Mathlib.Omega.{arith}
+use lib.ListN.{length, take}
+use lib.Seq.{length-take-le}
 use Rattle.encode.specs.Fields.{Bytes}
 use Rattle.form.specs.declared.fill.Counts.{Counts}
 use Rattle.prepare.specs.declared.read.Answer.{Answer as FileAnswer}
 use Rattle.prepare.specs.declared.read.Answer.the-variants.{Accepted, Refused as FileRefused}
 use Rattle.prepare.specs.File.{Lent, Reads}
-use Rattle.memo.proofs.Uses.{slots-enough}
+use Rattle.memo.specs.Sizes.{SlotsFor}
 use Rattle.machine.specs.Events.{no-counts}
 use Rattle.machine.specs.Answer.{Answer, refused}
 use Rattle.answer.specs.Answer.{Answers}
@@ -19,19 +21,25 @@ use Rattle.workspace.specs.declared.RenderOptions.{RenderOptions}
 use Rattle.workspace.specs.Meets.{limits}
 use Rattle.workspace.specs.Reading.{rules, prepared}
 use Rattle.materialize.specs.Rows.{Row}
+use Rattle.solve.specs.Accepted.{MemoRoom}
 use Rattle.render.specs.declared.page.Rendered.{Rendered}
 use Rattle.render.specs.declared.page.Rendered.the-variants.{Refused}
 use Rattle.render.specs.declared.order.Lengths.{Lengths}
-use Rattle.render.specs.Order.{TablesLent, MemoLent, InOrder}
+use Rattle.render.specs.Order.{TablesLent, InOrder}
 use Rattle.render.specs.Rendered.{meant, Stands}
-use Rattle.render.specs.Call.{settings, Rendering, Laid, tables-held}
+use Rattle.render.specs.Call.{settings, Rendering, Laid, MemoHolding, tables-held}
+use Rattle.render.proofs.Ordered.{slots-single}
 use Rattle.render.proofs.Pages.{unaltered}
 use Rattle.render.proofs.FromFile.{laid-answers, refused-answers, order-answers}
 
 -- ---- what 1 asks for is what the parts ask for
 
-pub memo-room : {b : Bounds} {l : Lengths} → MemoLent b l → b .memo ≤ l .slots
-memo-room {b} {l} h = slots-enough (h .is) (l .slots) (h .slots)
+-- the slots that a size takes are there, and cut to them the memo is as the solver asks
+pub slots-there : {b : Bounds} {ss : List ℕ} {es : List Row} {n : ℕ} → MemoHolding b ss es → SlotsFor (b .memo) n → n ≤ length ss
+slots-there {b} {n = n} h k = omega (arith, slots-single (b .memo) n (h .slots-for) k (h .is), h .slots-in)
+
+pub memo-room : {b : Bounds} {ss : List ℕ} {es : List Row} {n : ℕ} → MemoHolding b ss es → SlotsFor (b .memo) n → MemoRoom b (take n ss) es
+memo-room {ss = ss} {n = n} h k = record { slots = rw (length-take-le n ss (slots-there h k)) k; entries = h .entries-in }
 
 pub tables-lent : {nodes edges choices texts bytes : ℕ} {l : Lengths} → TablesLent l → l .nodes ≡ nodes → l .edges ≡ edges → l .choices ≡ choices → l .texts ≡ texts → l .bytes ≡ bytes → Lent nodes edges choices texts bytes
 tables-lent h a b c d e = record {

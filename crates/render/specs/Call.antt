@@ -8,6 +8,7 @@ use Rattle.layout.specs.Rules.{Rules}
 use Rattle.form.specs.declared.fill.Counts.{Counts}
 pub use Rattle.form.specs.Form.{tables-held}
 use Rattle.rules.specs.Judged.{tables}
+use Rattle.memo.specs.Sizes.{SlotsFor}
 use Rattle.machine.specs.Events.{Counts as Tally}
 use Rattle.machine.specs.Model.{Prepared}
 use Rattle.machine.specs.Materializer.{Rendered as Page}
@@ -63,6 +64,13 @@ pub record Holding (n : Counts) (nodes : List (List ℕ)) (edges choices : List 
   pub texts-in : n .texts ≤ length texts
   pub bytes-in : n .bytes ≤ length bytes
   pub readied : Readied (tables-held n nodes edges choices texts bytes)
+
+-- lent memory is long enough for the memo: its entries, and as many slots as its size takes
+pub record MemoHolding (b : Bounds) (ss : List ℕ) (es : List Row) : Type 0 where
+  pub entries-in : b .memo ≤ length es
+  pub slots-for : ℕ
+  pub is : SlotsFor (b .memo) slots-for
+  pub slots-in : slots-for ≤ length ss
 
 abbrev pub lengths : List (List ℕ) → List ℕ → List ℕ → List (List ℕ) → List ℕ → List Row → List Row → List Row → List ℕ → List Row → List Row → List ℕ → List Row → List ℕ → List ℕ → List ℕ → List Row → Lengths
 lengths nodes edges choices texts bytes tasks results pending slots entries kept frontier plans stack held output rows = record {

@@ -8,7 +8,7 @@ ghost use Rattle.execute.specs.Turn.{Room};
 ghost use Rattle.solve.specs.Accepted.{MemoRoom};
 ghost use Rattle.render.specs.Order.{InOrder};
 ghost use Rattle.render.specs.Rendered.{PageRoom};
-ghost use Rattle.render.specs.Call.{Rendering, Readied, Laid, Holding, tables-held, lengths};
+ghost use Rattle.render.specs.Call.{Rendering, Readied, Laid, Holding, MemoHolding, tables-held, lengths};
 use crate::order::Lengths;
 use crate::order::in_order;
 use crate::page::Rendered;
@@ -80,7 +80,7 @@ fn lay_out(
     }
 }
 
-// The same on tables that are lent longer than their counts.
+// The same on tables that are lent longer than their counts, and an index that is lent longer than the memo's size takes.
 fn lay_out_held(
     options: RenderOptions,
     b: Bounds,
@@ -103,7 +103,7 @@ fn lay_out_held(
     output: &mut [u8],
     rows: &mut [[u64; 4]],
 ) -> Rendered
-    requires { ⌜ Room b (now tasks) (now results) (now pending) (now frontier) (now kept) (now plans) × MemoRoom b (now slots) (now entries) × Holding n (now nodes) (now edges) (now choices) (now texts) (now bytes) × PageRoom b (now stack) (now held) (now output) (now rows) ⌝ }
+    requires { ⌜ Room b (now tasks) (now results) (now pending) (now frontier) (now kept) (now plans) × MemoHolding b (now slots) (now entries) × Holding n (now nodes) (now edges) (now choices) (now texts) (now bytes) × PageRoom b (now stack) (now held) (now output) (now rows) ⌝ }
     ensures { λ r. ⌜ Laid b (rules options) (prepared (tables-held n (now (nodes .entry)) (now (edges .entry)) (now (choices .entry)) (now (texts .entry)) (now (bytes .entry)))) (now (output .entry)) (now (output .exit)) (now (rows .entry)) (now (rows .exit)) r ⌝ }
 {
     let e0 = n.nodes as usize;
@@ -111,6 +111,7 @@ fn lay_out_held(
     let e2 = n.choices as usize;
     let e3 = n.texts as usize;
     let e4 = n.bytes as usize;
+    let e5 = memo::memo_slots_for(b.memo);
     lay_out(
         options,
         b,
@@ -124,7 +125,7 @@ fn lay_out_held(
         tasks,
         results,
         pending,
-        slots,
+        &mut slots[..e5],
         entries,
         kept,
         frontier,

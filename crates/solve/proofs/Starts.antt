@@ -3,7 +3,7 @@ use mathlib.Core.Path.{_≡_, refl, sym, ap, _∙_, subst}
 use mathlib.Core.List.{List, [], _∷_, map}
 use Prim.Native.Nat.{ℕ, zero, suc, _-_, _≤_, _<_, _^_}
 use native.Mathlib.Omega.{arith}
-use lib.ListN.{length, getD, length-append, length-map}
+use lib.ListN.{length, getD, replicate, length-append, length-map}
 use Rattle.stats.specs.declared.SolveStats.{SolveStats}
 use Rattle.layout.specs.Document.{Doc}
 use Rattle.layout.specs.Layout.{Plan}
@@ -12,11 +12,8 @@ use Rattle.layout.specs.Rules.{Rules}
 use Rattle.layout.specs.Table.{Table}
 use Rattle.memo.specs.declared.MemoKey.{MemoKey}
 use Rattle.memo.specs.Entries.{listed}
-use Rattle.memo.specs.Index.{Sound as Indexed}
+use Rattle.memo.proofs.Uses.{slots-enough, fresh}
 use Rattle.plan.specs.Arena.{arena}
-use Rattle.frontier.specs.declared.Builder.{Builder}
-use Rattle.frontier.specs.Candidates.{chain, survivors}
-use Rattle.frontier.specs.Kept.{Opened}
 use Rattle.machine.specs.Events.{Counts, Prog, ret, _>>=_, Out, done, stop, run, counted, PlanNodes, no-counts}
 use Rattle.machine.specs.Programs.{run-bind, and-then}
 use Rattle.machine.specs.Programs.{value as value-of}
@@ -40,89 +37,81 @@ use Rattle.workspace.specs.declared.Answer.the-variants.{Go, Stop}
 use Rattle.workspace.specs.Meets.{limits, tally, counts, reason, out, Sound, Meets}
 use Rattle.workspace.specs.Rows.{Row, at, pile, range-of, row-list, candidate-of, candidate, node-of, abs}
 use Rattle.workspace.specs.Frames.{Popped, Memory, no-entry}
+use Rattle.workspace.specs.Frames.{Kept as Stayed}
+use Rattle.workspace.specs.Lent.{WORDS, regs, Held}
 use Rattle.workspace.specs.Stacks.{pop-is}
+use Rattle.builder.specs.Building.{Begun}
+use Rattle.builder.specs.Opening.{begun-abs, begun-held}
 use Rattle.solve.specs.declared.Solution.the-variants.{Found}
 use Rattle.solve.specs.Accepted.{Typed, MemoRoom, Topped}
-use Rattle.solve.specs.Outcome.{outcome, least-of}
+use Rattle.solve.specs.Outcome.{outcome, least-of, with-nodes}
 use Rattle.solve.proofs.Turns.{value-is}
 
 -- ---- the start
 
-abbrev pub no-stats : SolveStats
-no-stats = record {
-  «work_items» = 0;
-  «fit_checks» = 0;
-  «memo_hits» = 0;
-  «memo_misses» = 0;
-  «candidates_generated» = 0;
-  «candidates_pruned» = 0;
-  «peak_frontier» = 0;
-  «memo_entries» = 0;
-  «plan_nodes» = 0;
-  visits = 0;
+-- no word is set
+abbrev pub none-set : List ℕ
+none-set = replicate WORDS 0
+
+pub none-held : (b : Bounds) → b .stack < 2 ^ 32 → Held b none-set
+none-held b f = record {
+  room = omega arith;
+  sound = record {
+    hits = omega arith;
+    misses = omega arith;
+    generated = omega arith;
+    pruned = omega arith;
+    work = omega arith;
+    tasks = omega arith;
+    results = omega arith;
+    pending = omega arith;
+    memo = omega arith;
+    kept = omega arith;
+    plans = omega arith;
+    stack = f;
+  };
 }
 
-abbrev pub start : Builder → Registers
-start o = record { tasks = 0; results = 0; pending = 0; memo = 0; kept = 0; plans = 0; start = 0; len = 0; builder = o; stats = no-stats }
+pub none-room : {g : List ℕ} → g ≡ none-set → WORDS ≤ length g
+none-room e = subst (λ (x : List ℕ). WORDS ≤ length x) (sym e) (omega arith)
 
-chain-length : (m : List ℕ) (c n : ℕ) → length (chain m c n) ≡ n
-chain-length m c zero = refl
-chain-length m c (suc n) = ap suc (chain-length m _ n)
+-- the registers of a call that begins
+pub record Started (z : Registers) : Type 0 where
+  pub begun : Begun (regs none-set) z
 
-none-lives : (o : Builder) → Opened o → o .live ≡ 0
-unfolding survivors
-none-lives o h = sym (chain-length [] (o .head) (o .live)) ∙ (sym (length-map (chain [] (o .head) (o .live)) _) ∙ ap length (h .empty []))
+pub started : {g : List ℕ} {z : Registers} → g ≡ none-set → Begun (regs g) z → Started z
+started {z = z} e h = record { begun = subst (λ (x : List ℕ). Begun (regs x) z) e h }
 
-pub start-sound : (b : Bounds) (o : Builder) → Opened o → b .stack < 2 ^ 32 → Sound b (start o)
-start-sound b o h f =
-    let l : o .live ≡ 0 = none-lives o h in
-    record {
-      hits = omega arith;
-      misses = omega arith;
-      generated = omega arith;
-      pruned = omega (arith, l);
-      work = omega arith;
-      tasks = omega arith;
-      results = omega arith;
-      pending = omega arith;
-      memo = omega arith;
-      kept = omega arith;
-      plans = omega arith;
-      stack = f;
-    }
+pub started-held : {b : Bounds} {g h : List ℕ} → g ≡ none-set → Begun (regs g) (regs h) → length h ≡ length g → b .stack < 2 ^ 32 → Held b h
+started-held {b = b} {g = g} e h l f = begun-held h l (subst (λ (x : List ℕ). Held b x) (sym e) (none-held b f))
 
-blank-is : (o : Builder) → Opened o → (ts rs ps es ks : List Row) (fs : List ℕ) (ns : List Row) → abs (start o) ts rs ps es ks fs ns ≡ blank-state
+blank-is : {z : Registers} → Started z → (ts rs ps es ks : List Row) (fs : List ℕ) (ns : List Row) → abs z ts rs ps es ks fs ns ≡ blank-state
 unfolding abs listed arena
-blank-is o h ts rs ps es ks fs ns = rw (h .empty fs)
+blank-is h ts rs ps es ks fs ns = begun-abs (h .begun) ts rs ps es ks fs ns
 
-pub starts : (R : Rules) (P : Prepared) (o : Builder) → Opened o → (ts rs ps es ks : List Row) (fs : List ℕ) (ns : List Row)
-    → solve-tasks R P ≡ (push-exact-task (Eval (memo-key (P .root) 0 0)) (abs (start o) ts rs ps es ks fs ns) >>= rest R P)
+pub starts : (R : Rules) (P : Prepared) {z : Registers} → Started z → (ts rs ps es ks : List Row) (fs : List ℕ) (ns : List Row)
+    → solve-tasks R P ≡ (push-exact-task (Eval (memo-key (P .root) 0 0)) (abs z ts rs ps es ks fs ns) >>= rest R P)
 unfolding solve-tasks
-starts R P o h ts rs ps es ks fs ns = ap (λ (S : State). push-exact-task (Eval (memo-key (P .root) 0 0)) S >>= rest R P) (sym (blank-is o h ts rs ps es ks fs ns))
+starts R P h ts rs ps es ks fs ns = ap (λ (S : State). push-exact-task (Eval (memo-key (P .root) 0 0)) S >>= rest R P) (sym (blank-is h ts rs ps es ks fs ns))
 
-pub from-start : {b : Bounds} {k : Counts} {p q : Prog State} {a : Answer} {f : Registers → State} → p ≡ q → Meets b k q a f → Meets b k p a f
-from-start {b = b} {k = k} e m = record { is = ap (run (limits b) k) e ∙ m .is; sound = m .sound }
+pub from-start : {b : Bounds} {z : Registers} {p q : Prog State} {a : Answer} {f : Registers → State} → Started z → p ≡ q → Meets b (counts z) q a f → Meets b no-counts p a f
+from-start {b = b} {z = z} {q = q} {a = a} {f = f} h e m =
+    let k : counts z ≡ no-counts = ap counts (h .begun .same) in
+    record { is = ap (run (limits b) no-counts) e ∙ subst (λ (j : Counts). run (limits b) j q ≡ out a f) k (m .is); sound = m .sound }
 
 -- a memo of no entries, in any words
-indexed : (ss : List ℕ) (es : List Row) → Indexed ss es 0
-indexed ss es = record {
-  room = omega arith;
-  within = λ k l. absurd (omega arith);
-  named = λ k l. absurd (omega arith);
-  path = λ k l. absurd (omega arith);
-  single = λ k j l. absurd (omega arith);
-}
-
-pub memory : (b : Bounds) (ss : List ℕ) (es : List Row) (n : ℕ) → n ≡ 0 → MemoRoom b ss es → Memory b n ss es
+pub memory : (b : Bounds) (ss : List ℕ) (es : List Row) {z s : Registers} → Started z → Stayed z s → MemoRoom b ss es → Memory b (s .memo) ss es
 unfolding listed
-memory b ss es n e h = rw e (record { index = indexed ss es; narrow = no-entry; slots = h .slots; entries = h .entries })
+memory b ss es {z = z} h k m =
+    let e : z .memo ≡ 0 = ap (λ (x : Registers). x .memo) (h .begun .same) in
+    rw (k .memo, e) (record { index = fresh ss es (m .slots); narrow = no-entry; slots = slots-enough (m .slots); entries = m .entries })
 
-pub typed-start : (R : Rules) (P : Prepared) → Ready P → (q : MemoKey) (b : Bounds) (o : Builder) → Opened o → (k : Counts) (ts rs ps es ks : List Row) (fs : List ℕ) (ns : List Row) (a : Answer) (f : Registers → State) (z : Registers)
-    → Meets b k (push-exact-task (Eval q) (abs (start o) ts rs ps es ks fs ns)) a f → a ≡ Go z → Typed R P (f z)
+pub typed-start : (R : Rules) (P : Prepared) → Ready P → (q : MemoKey) (b : Bounds) {z : Registers} → Started z → (k : Counts) (ts rs ps es ks : List Row) (fs : List ℕ) (ns : List Row) {a : Answer} {f : Registers → State} {s : Registers}
+    → Meets b k (push-exact-task (Eval q) (abs z ts rs ps es ks fs ns)) a f → a ≡ Go s → Typed R P (f s)
 unfolding push-exact-task
-typed-start R P K q b o h k ts rs ps es ks fs ns a f z m e =
+typed-start R P K q b h k ts rs ps es ks fs ns {f = f} {s = s} m e =
     let D = document (P .table) (K .ranked) in
-    let v : with-tasks (Eval q ∷ []) blank-state ≡ f z = ap (λ (S : State). with-tasks (Eval q ∷ S .tasks) S) (sym (blank-is o h ts rs ps es ks fs ns)) ∙ value-is m e in
+    let v : with-tasks (Eval q ∷ []) blank-state ≡ f s = ap (λ (S : State). with-tasks (Eval q ∷ S .tasks) S) (sym (blank-is h ts rs ps es ks fs ns)) ∙ value-is m e in
     record {
       documents = D;
       reads = document-reads (P .table) (K .ranked);
@@ -178,20 +167,6 @@ unfolding arena
 arena-length ns zero = refl
 arena-length ns (suc n) = length-append (arena ns n) _ ∙ omega (arith, arena-length ns n)
 
-abbrev with-nodes : SolveStats → ℕ → SolveStats
-with-nodes t n = record {
-  «work_items» = t .«work_items»;
-  «fit_checks» = t .«fit_checks»;
-  «memo_hits» = t .«memo_hits»;
-  «memo_misses» = t .«memo_misses»;
-  «candidates_generated» = t .«candidates_generated»;
-  «candidates_pruned» = t .«candidates_pruned»;
-  «peak_frontier» = t .«peak_frontier»;
-  «memo_entries» = t .«memo_entries»;
-  «plan_nodes» = n;
-  visits = t .visits;
-}
-
 -- the popped range is the one on top
 pub popped-len : (st s : Registers) (rs ks : List Row) (t : Topped st rs ks) → pop-exact-result (abs st [] rs [] [] ks [] []) ≡ ret (got (range (s .start) (s .len)) (abs s [] rs [] [] ks [] [])) → 1 ≤ s .len
 popped-len st s rs ks t e =
@@ -208,20 +183,20 @@ plans-of s ts rs ps es ks fs ns = refl
 
 pub best-is : (b : Bounds) (R : Rules) (P : Prepared) (st s : Registers) (ts rs ps es ks : List Row) (fs : List ℕ) (ns : List Row) (best : Code)
     → pop-exact-result (abs st ts rs ps es ks fs ns) ≡ ret (got (range (s .start) (s .len)) (abs s ts rs ps es ks fs ns)) → Popped st s → 1 ≤ s .len
-    → candidate best ≡ least-of (part (row-list candidate-of ks (s .kept)) (s .start) (s .len))
-    → run (limits b) (counts st) (take-best R P (abs st ts rs ps es ks fs ns)) ≡ outcome (Found (record { root = best .plan; cost = best .cost; plans = s .plans; stats = with-nodes (s .stats) (s .plans) })) ns
+    → candidate best ≡ least-of (part (row-list candidate-of ks (s .kept)) (s .start) (s .len)) → (t : SolveStats) → t ≡ with-nodes (s .stats) (s .plans)
+    → run (limits b) (counts st) (take-best R P (abs st ts rs ps es ks fs ns)) ≡ outcome (Found (record { root = best .plan; cost = best .cost; plans = s .plans; stats = t })) ns
 unfolding take-best
-best-is b R P st s ts rs ps es ks fs ns best e p l c =
+best-is b R P st s ts rs ps es ks fs ns best e p l c t q =
     let S = abs s ts rs ps es ks fs ns in
     let cs = part (row-list candidate-of ks (s .kept)) (s .start) (s .len) in
     let n : length (map node-of (arena ns (s .plans))) ≡ s .plans = length-map (arena ns (s .plans)) node-of ∙ arena-length ns (s .plans) in
-    let k : counted (counts st) (PlanNodes (length (S .plans))) ≡ tally (with-nodes (s .stats) (s .plans)) = rw (plans-of s ts rs ps es ks fs ns, n, p .stats) in
+    let k : counted (counts st) (PlanNodes (length (S .plans))) ≡ tally t = rw (plans-of s ts rs ps es ks fs ns, n, q, p .stats) in
     ap (λ (m : Prog Got). run (limits b) (counts st) (m >>= (λ G. best-of (within-range (G .state .retained) (G .range)) (G .state)))) e
     ∙ ap (λ (r : List Candidate). run (limits b) (counts st) (best-of (part r (s .start) (s .len)) S)) (kept-of s ts rs ps es ks fs ns)
     ∙ best-run b (counts st) cs S (some-part (row-list candidate-of ks (s .kept)) (s .start) (s .len) l)
     ∙ ap (λ (j : Counts). done j (record { root = least-of cs .plan .plan; cost = least-of cs .cost; plans = S .plans })) k
-    ∙ ap (λ (x : Candidate). done (tally (with-nodes (s .stats) (s .plans))) (record { root = x .plan .plan; cost = x .cost; plans = S .plans })) (sym c)
-    ∙ ap (λ (ps : List _). done (tally (with-nodes (s .stats) (s .plans))) (record { root = candidate best .plan .plan; cost = candidate best .cost; plans = ps })) (plans-of s ts rs ps es ks fs ns)
+    ∙ ap (λ (x : Candidate). done (tally t) (record { root = x .plan .plan; cost = x .cost; plans = S .plans })) (sym c)
+    ∙ ap (λ (ps : List _). done (tally t) (record { root = candidate best .plan .plan; cost = candidate best .cost; plans = ps })) (plans-of s ts rs ps es ks fs ns)
 
 -- ---- both
 
@@ -232,7 +207,7 @@ solved {b = b} R P {f = f} m q r =
     run-bind (limits b) no-counts (solve-tasks R P) (take-best R P) ∙ (ap (λ x. and-then (limits b) x (take-best R P)) (m .is ∙ ap (λ x. out x f) q) ∙ r)
 
 pub refused : {b : Bounds} (R : Rules) (P : Prepared) {a : Answer} {f : Registers → State} {s : Registers} {w : Why} {n : ℕ}
-    → Meets b no-counts (solve-tasks R P) a f → a ≡ Stop w n s → run (limits b) no-counts (solve R P) ≡ stop (reason w) n (counts s)
+    → Meets b no-counts (solve-tasks R P) a f → a ≡ Stop w n s → (t : SolveStats) → t ≡ s .stats → run (limits b) no-counts (solve R P) ≡ stop (reason w) n (tally t)
 unfolding solve
-refused {b = b} R P {f = f} m q =
-    run-bind (limits b) no-counts (solve-tasks R P) (take-best R P) ∙ ap (λ x. and-then (limits b) x (take-best R P)) (m .is ∙ ap (λ x. out x f) q)
+refused {b = b} R P {f = f} {w = w} {n = n} m q t e =
+    run-bind (limits b) no-counts (solve-tasks R P) (take-best R P) ∙ (ap (λ x. and-then (limits b) x (take-best R P)) (m .is ∙ ap (λ x. out x f) q) ∙ ap (λ (k : SolveStats). stop (reason w) n (tally k)) (sym e))

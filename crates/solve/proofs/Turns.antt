@@ -1,9 +1,9 @@
 -- What a turn of the loop shows: the task on top finds what it takes, and its step leads on.
 use mathlib.Core.Path.{_≡_, sym, ap, _∙_, subst}
 use mathlib.Core.List.{List, [], _∷_}
-use Prim.Native.Nat.{ℕ, suc, _-_, _≤_, _<_}
+use Prim.Native.Nat.{ℕ, suc, _≤_, _<_}
 use native.Mathlib.Omega.{arith}
-use lib.ListN.{length, getD, length-append}
+use lib.ListN.{length, getD, set, length-append, length-set}
 use Rattle.layout.specs.Document.{Doc}
 use Rattle.layout.specs.Layout.{Plan}
 use Rattle.layout.specs.Rules.{Rules}
@@ -25,14 +25,18 @@ use Rattle.meaning.specs.Rest.{rest-step, rest-none}
 use Rattle.meaning.specs.Falls.{left, falls}
 use Rattle.workspace.specs.declared.Bounds.{Bounds}
 use Rattle.workspace.specs.declared.Registers.{Registers}
+use Rattle.workspace.specs.declared.RenderOptions.{RenderOptions}
 use Rattle.workspace.specs.declared.Why.{Why}
 use Rattle.workspace.specs.declared.Answer.{Answer}
 use Rattle.workspace.specs.declared.Answer.the-variants.{Go, Stop}
 use Rattle.workspace.specs.Meets.{limits, counts, out, Sound, Meets, Leads}
-use Rattle.workspace.specs.Rows.{Row, pile, task-of, range-of, scratch-of, candidate-of, abs}
-use Rattle.workspace.specs.Reading.{prepared, tables}
+use Rattle.workspace.specs.Rows.{Row, at, pile, task-of, range-of, scratch-of, candidate-of, abs}
+use Rattle.workspace.specs.Frames.{Memory}
+use Rattle.workspace.specs.Lent.{TASKS, WORDS, regs, Held}
+use Rattle.workspace.specs.Reading.{prepared, tables, rules}
 use Rattle.workspace.specs.Runs.{leads-seq, halt}
-use Rattle.workspace.specs.Stacks.{pile-length, row-list-length, with-tasks-to}
+use Rattle.workspace.specs.Stacks.{pile-length, row-list-length, with-tasks-to, sound-tasks}
+use Rattle.workspace.specs.Stores.{tasks-stored}
 use Rattle.execute.specs.Turn.{Room, Fits}
 use Rattle.solve.specs.Accepted.{Typed}
 
@@ -91,30 +95,23 @@ kept-are : (s : Registers) (ts rs ps es ks : List Row) (fs : List ℕ) (ns : Lis
 unfolding abs
 kept-are s ts rs ps es ks fs ns h = row-list-length candidate-of ks (s .kept) h
 
-pub fits : (R : Rules) (N : List Row) (E C : List ℕ) (X : List Row) (sp : ℕ) (b : Bounds) (s : Registers) (ts rs ps es ks : List Row) (fs : List ℕ) (ns : List Row) (i : ℕ) → s .tasks ≡ suc i
-    → Sound b s → Room b ts rs ps fs ks ns → Typed R (prepared (tables N E C X [] 0 0 sp)) (abs s ts rs ps es ks fs ns) → Fits N E (with-tasks-to s i) (task-of (getD ts i []))
-fits R N E C X sp b s ts rs ps es ks fs ns i e h m t =
+pub fits : (R : Rules) (N : List Row) (E C : List ℕ) (X : List Row) (sp : ℕ) (b : Bounds) (g : List ℕ) (ts rs ps es ks : List Row) (fs : List ℕ) (ns : List Row) (i : ℕ) → at g TASKS ≡ suc i
+    → Held b g → Room b ts rs ps fs ks ns → Typed R (prepared (tables N E C X [] 0 0 sp)) (abs (regs g) ts rs ps es ks fs ns) → Fits N E (regs (set g TASKS i)) (task-of (getD ts i []))
+fits R N E C X sp b g ts rs ps es ks fs ns i e h m t =
+    let s = regs g in
     let S = abs s ts rs ps es ks fs ns in
-    fits-cont R N E C X [] 0 0 sp (t .documents) (t .goal) (with-tasks-to s i) (S .results)
+    subst (λ (z : Registers). Fits N E z (task-of (getD ts i []))) (sym (tasks-stored g i (h .room)))
+    (fits-cont R N E C X [] 0 0 sp (t .documents) (t .goal) (with-tasks-to s i) (S .results)
     (subst (λ (z : List Task). Cont R (prepared (tables N E C X [] 0 0 sp) .table) (t .documents) (t .goal) (S .retained) (laid (prepared (tables N E C X [] 0 0 sp) .table) (S .plans)) z (t .inv .types) (S .pending)) (top s ts rs ps es ks fs ns i e) (t .inv .conts))
-    (t .inv .res) (results-are s ts rs ps es ks fs ns) (pending-are s ts rs ps es ks fs ns (omega (arith, h .pending, m .pending))) (kept-are s ts rs ps es ks fs ns (omega (arith, h .kept, m .kept)))
+    (t .inv .res) (results-are s ts rs ps es ks fs ns) (pending-are s ts rs ps es ks fs ns (omega (arith, h .sound .pending, m .pending))) (kept-are s ts rs ps es ks fs ns (omega (arith, h .sound .kept, m .kept))))
 
--- the registers without the task on top
-pub untasked : {b : Bounds} {s : Registers} (i : ℕ) → i ≤ s .tasks → Sound b s → Sound b (with-tasks-to s i)
-untasked i l h = record {
-  hits = h .hits;
-  misses = h .misses;
-  generated = h .generated;
-  pruned = h .pruned;
-  work = h .work;
-  tasks = omega (arith, h .tasks);
-  results = h .results;
-  pending = h .pending;
-  memo = h .memo;
-  kept = h .kept;
-  plans = h .plans;
-  stack = h .stack;
-}
+-- the words without the task on top
+pub untasked : {b : Bounds} {g : List ℕ} (i : ℕ) → at g TASKS ≡ suc i → Held b g → Held b (set g TASKS i)
+untasked {b = b} {g = g} i e h =
+    record { room = omega (arith, length-set g TASKS i, h .room); sound = subst (Sound b) (sym (tasks-stored g i (h .room))) (sound-tasks i (h .sound) (omega (arith, h .sound .tasks, e))) }
+
+pub memo-stays : {b : Bounds} (g : List ℕ) {ss : List ℕ} {es : List Row} (i : ℕ) → WORDS ≤ length g → Memory b (regs g .memo) ss es → Memory b (regs (set g TASKS i) .memo) ss es
+memo-stays {b = b} g {ss = ss} {es = es} i l h = subst (λ (z : Registers). Memory b (z .memo) ss es) (sym (tasks-stored g i l)) h
 
 -- ---- a turn
 
@@ -123,15 +120,19 @@ pub record Turned (R : Rules) (P : Prepared) (b : Bounds) (k j : Counts) (S Z : 
   pub typed : Typed R P Z
   pub less : left R P Z < left R P S
 
-module _ (R : Rules) (P : Prepared) (K : Ready P) (b : Bounds) (s : Registers) (ts rs ps es ks : List Row) (fs : List ℕ) (ns : List Row) (i : ℕ) (e : s .tasks ≡ suc i)
-    (t : Typed R P (abs s ts rs ps es ks fs ns)) (x : Task) (ex : x ≡ task-of (getD ts i [])) {a : Answer} {f : Registers → State}
-    (m : Meets b (counts s) (execute-task R P x (abs (with-tasks-to s i) ts rs ps es ks fs ns)) a f) where
+module _ (R : Rules) (P : Prepared) (K : Ready P) (b : Bounds) (g : List ℕ) (w : WORDS ≤ length g) (ts rs ps es ks : List Row) (fs : List ℕ) (ns : List Row) (i : ℕ) (e : at g TASKS ≡ suc i)
+    (t : Typed R P (abs (regs g) ts rs ps es ks fs ns)) (x : Task) (ex : x ≡ task-of (getD ts i [])) {a : Answer} {f : Registers → State}
+    (m : Meets b (counts (regs (set g TASKS i))) (execute-task R P x (abs (regs (set g TASKS i)) ts rs ps es ks fs ns)) a f) where
+  abbrev s : Registers
+  s = regs g
+
   abbrev S₀ : State
   S₀ = abs s ts rs ps es ks fs ns
 
   stepped : Meets b (counts s) (step R P S₀) a f
   stepped = subst (λ (p : Prog State). Meets b (counts s) p a f)
-      (ap (λ (y : Task). execute-task R P y (abs (with-tasks-to s i) ts rs ps es ks fs ns)) ex ∙ sym (step-is R P s ts rs ps es ks fs ns i e)) m
+      (ap (λ (y : Task). execute-task R P y (abs (with-tasks-to s i) ts rs ps es ks fs ns)) ex ∙ sym (step-is R P s ts rs ps es ks fs ns i e))
+      (subst (λ (z : Registers). Meets b (counts z) (execute-task R P x (abs z ts rs ps es ks fs ns)) a f) (tasks-stored g i w) m)
 
   unrolled : rest R P S₀ ≡ (step R P S₀ >>= rest R P)
   unrolled = rest-step R P (t .documents) (t .goal) K (t .reads) _ _ S₀ (top s ts rs ps es ks fs ns i e) (t .inv)
@@ -150,10 +151,8 @@ module _ (R : Rules) (P : Prepared) (K : Ready P) (b : Bounds) (s : Registers) (
         less = subst (λ (Z : State). left R P Z < left R P S₀) v (falls R P (t .documents) (t .goal) K (t .reads) _ _ S₀ (top s ts rs ps es ks fs ns i e) (t .inv));
       }
 
-  pub halted : (w : Why) (n : ℕ) (z : Registers) (h : Registers → State) → a ≡ Stop w n z → Meets b (counts s) (rest R P S₀) (Stop w n z) h
-  halted w n z h q =
-      subst (λ (p : Prog State). Meets b (counts s) p (Stop w n z) h) (sym unrolled)
-      (subst (λ (x : Answer). Meets b (counts s) (step R P S₀ >>= rest R P) x h) q (halt (rest R P) stepped q))
+  pub stops : {v : Why} {n : ℕ} {z : Registers} {h : Registers → State} → a ≡ Stop v n z → Meets b (counts s) (rest R P S₀) a h
+  stops {h = h} q = subst (λ (p : Prog State). Meets b (counts s) p a h) (sym unrolled) (halt (rest R P) stepped q)
 
 -- no task is left
 none : (s : Registers) (ts rs ps es ks : List Row) (fs : List ℕ) (ns : List Row) → s .tasks ≡ 0 → abs s ts rs ps es ks fs ns .tasks ≡ []
@@ -164,3 +163,23 @@ pub finished : (R : Rules) (P : Prepared) (K : Ready P) (b : Bounds) (s : Regist
     → Typed R P (abs s ts rs ps es ks fs ns) → Meets b (counts s) (rest R P (abs s ts rs ps es ks fs ns)) (Go s) (λ z. abs z ts rs ps es ks fs ns)
 finished R P K b s ts rs ps es ks fs ns e h t =
     record { is = ap (run (limits b) (counts s)) (rest-none R P (t .documents) (t .goal) K (t .reads) (abs s ts rs ps es ks fs ns) (none s ts rs ps es ks fs ns e)); sound = h }
+
+-- ---- the loop
+
+-- each slice has its length; the memo's slices and the words are sound; the run from the entry on leads here
+pub record Working (options : RenderOptions) (b : Bounds) (N : List Row) (E C : List ℕ) (X : List Row) (sp : ℕ) (g₀ : List ℕ) (ts₀ rs₀ ps₀ : List Row) (ss₀ : List ℕ) (es₀ : List Row) (fs₀ : List ℕ) (ks₀ ns₀ : List Row)
+    (g : List ℕ) (ts rs ps : List Row) (ss : List ℕ) (es : List Row) (fs : List ℕ) (ks ns : List Row) : Type 0 where
+  pub words : length g ≡ length g₀
+  pub tasks : length ts ≡ length ts₀
+  pub results : length rs ≡ length rs₀
+  pub pending : length ps ≡ length ps₀
+  pub slots : length ss ≡ length ss₀
+  pub entries : length es ≡ length es₀
+  pub frontier : length fs ≡ length fs₀
+  pub kept : length ks ≡ length ks₀
+  pub plans : length ns ≡ length ns₀
+  pub memory : Memory b (regs g .memo) ss es
+  pub held : Held b g
+  pub typed : (bytes : List ℕ) (annotations root : ℕ) → Typed (rules options) (prepared (tables N E C X bytes annotations root sp)) (abs (regs g) ts rs ps es ks fs ns)
+  pub leads : (bytes : List ℕ) (annotations root : ℕ) → Leads b (counts (regs g₀)) (rest (rules options) (prepared (tables N E C X bytes annotations root sp)) (abs (regs g₀) ts₀ rs₀ ps₀ es₀ ks₀ fs₀ ns₀))
+      (counts (regs g)) (rest (rules options) (prepared (tables N E C X bytes annotations root sp)) (abs (regs g) ts rs ps es ks fs ns))

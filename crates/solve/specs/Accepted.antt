@@ -6,6 +6,7 @@ use lib.ListN.{length, getD}
 use Rattle.layout.specs.Document.{Doc}
 use Rattle.layout.specs.Rules.{Rules}
 use Rattle.layout.specs.Table.{Reads}
+use Rattle.memo.specs.Sizes.{SlotsFor}
 use Rattle.machine.specs.Model.{Prepared, State}
 use Rattle.meaning.specs.Fronts.{Front}
 use Rattle.meaning.specs.Ready.{Ready}
@@ -26,9 +27,9 @@ pub record Typed (R : Rules) (P : Prepared) (S : State) : Type 0 where
   pub goal : Front
   pub inv : Inv R P documents goal S
 
--- the memo's slices are as long as its size says
+-- the memo's slices: as many slots as its size takes, and no fewer entries than its size says
 pub record MemoRoom (b : Bounds) (ss : List ℕ) (es : List Row) : Type 0 where
-  pub slots : b .memo ≤ length ss
+  pub slots : SlotsFor (b .memo) (length ss)
   pub entries : b .memo ≤ length es
 
 -- the result on top is a range that is not empty

@@ -3,6 +3,7 @@ use mathlib.Core.List.{List, [], _∷_, map}
 use Prim.Native.Nat.{ℕ, _≤_, _<_, _^_}
 use lib.ListN.{length}
 use Rattle.cost.specs.Value.{value}
+use Rattle.stats.specs.declared.SolveStats.{SolveStats}
 use Rattle.plan.specs.Arena.{arena}
 use Rattle.plan.specs.Layouts.{Ranked}
 use Rattle.machine.specs.Events.{Out, done, stop}
@@ -21,6 +22,21 @@ core c plans = record { root = c .root .0; cost = value (c .cost); plans = map n
 abbrev pub outcome : Solution → List Row → Out Solved
 outcome (Found c) plans = done (tally (c .stats)) (core c plans)
 outcome (Refused why needed stats) plans = stop (reason why) needed (tally stats)
+
+-- the counts with so many plans
+abbrev pub with-nodes : SolveStats → ℕ → SolveStats
+with-nodes t n = record {
+  «work_items» = t .«work_items»;
+  «fit_checks» = t .«fit_checks»;
+  «memo_hits» = t .«memo_hits»;
+  «memo_misses» = t .«memo_misses»;
+  «candidates_generated» = t .«candidates_generated»;
+  «candidates_pruned» = t .«candidates_pruned»;
+  «peak_frontier» = t .«peak_frontier»;
+  «memo_entries» = t .«memo_entries»;
+  «plan_nodes» = n;
+  visits = t .visits;
+}
 
 -- the first least of candidates by cost and precedence
 abbrev pub least-of : List Candidate → Candidate

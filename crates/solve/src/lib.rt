@@ -3,20 +3,21 @@ ghost use mathlib.Core.Path.{_≡_};
 ghost use mathlib.Core.Bool.{cond};
 ghost use mathlib.Core.List.{List, []};
 ghost use Prim.Native.Nat.{ℕ, _≤_};
-ghost use lib.ListN.{length};
+ghost use lib.ListN.{length, replicate};
 ghost use Rattle.layout.specs.Rules.{Rules};
 ghost use Rattle.machine.specs.Events.{run, no-counts};
 ghost use Rattle.machine.specs.Model.{Prepared, part};
 ghost use Rattle.machine.specs.Solve.{rest, before, solve-tasks};
 ghost use Rattle.machine.specs.Solve.{take-best as best-taken, solve as solving};
-ghost use Rattle.workspace.specs.Meets.{Meets, Sound, counts, limits};
+ghost use Rattle.workspace.specs.Meets.{Meets, counts, limits};
 ghost use Rattle.workspace.specs.declared.Bounds.{Bounds as Sizes};
 ghost use Rattle.workspace.specs.Rows.{Row, abs, candidate, candidate-of, row-list};
 ghost use Rattle.workspace.specs.Frames.{Memory};
+ghost use Rattle.workspace.specs.Lent.{WORDS, regs, Held, answer};
 ghost use Rattle.workspace.specs.Reading.{prepared, tables, rules};
 ghost use Rattle.execute.specs.Turn.{Room};
 ghost use Rattle.solve.specs.Accepted.{Accepted, Typed, MemoRoom, Topped};
-ghost use Rattle.solve.specs.Outcome.{outcome, least-of, Plans};
+ghost use Rattle.solve.specs.Outcome.{outcome, least-of, with-nodes, Plans};
 ghost use Rattle.solve.specs.Numbered.{TextsBelow};
 ghost use Rattle.solve.specs.declared.Solution.the-variants.{Found};
 use cost::ConsumerCost;
@@ -26,12 +27,24 @@ use plan::PlanId;
 use stats::SolveStats;
 use tables::NodeId;
 use tables::TextId;
-use workspace::Answer;
 use workspace::Bounds;
 use workspace::Candidate;
+use workspace::ENTRIES;
 use workspace::ExactTask;
-use workspace::Registers;
+use workspace::GENERATED;
+use workspace::HITS;
+use workspace::KEPT;
+use workspace::LEN;
+use workspace::MISSES;
+use workspace::PEAK;
+use workspace::PLANS;
+use workspace::PRUNED;
 use workspace::RenderOptions;
+use workspace::START;
+use workspace::TASKS;
+use workspace::Turn;
+use workspace::WORDS;
+use workspace::WORK;
 use workspace::Why;
 
 // The chosen plan, its cost, how many plans there are, and the counts.
@@ -85,22 +98,43 @@ fn least_candidate(kept: &[[u64; 6]], count: usize, start: u32, len: u32) -> Can
     best
 }
 
-fn take_best(st: Registers, results: &[[u32; 2]], kept: &[[u64; 6]]) -> SolvedCore
-    requires { ⌜ Topped st (now results) (now kept) ⌝ }
-    ensures meets { λ c. ⌜ ((b : Sizes) (R : Rules) (P : Prepared) (ts ps es : List Row) (fs : List ℕ) (ns : List Row) → run (limits b) (counts st) (best-taken R P (abs st ts (now (results .entry)) ps es (now (kept .entry)) fs ns)) ≡ outcome (Found c) ns) ⌝ }
-    ensures plans { λ c. ⌜ c .plans ≡ st .plans ⌝ }
+// The counts, with so many plans. Fit checks and visits are not the solver's.
+fn stats_of(g: &[u64], plans: u64) -> SolveStats
+    requires { ⌜ WORDS ≤ length (now g) ⌝ }
+    ensures { λ r. ⌜ r ≡ with-nodes (regs (now (g .entry)) .stats) plans ⌝ }
 {
-    let s = workspace::pop_exact_result(st, results);
-    let best = least_candidate(kept, s.kept, s.start, s.len);
-    let nodes = s.plans as u64;
-    let mut stats = s.stats;
-    stats.plan_nodes = nodes;
+    SolveStats {
+        work_items: g[WORK],
+        fit_checks: 0,
+        memo_hits: g[HITS],
+        memo_misses: g[MISSES],
+        candidates_generated: g[GENERATED],
+        candidates_pruned: g[PRUNED],
+        peak_frontier: g[PEAK],
+        memo_entries: g[ENTRIES],
+        plan_nodes: plans,
+        visits: 0,
+    }
+}
+
+fn take_best(g: &mut [u64], results: &[[u32; 2]], kept: &[[u64; 6]]) -> SolvedCore
+    requires { ⌜ (WORDS ≤ length (now g)) × Topped (regs (now g)) (now results) (now kept) ⌝ }
+    ensures meets { λ c. ⌜ ((b : Sizes) (R : Rules) (P : Prepared) (ts ps es : List Row) (fs : List ℕ) (ns : List Row) → run (limits b) (counts (regs (now (g .entry)))) (best-taken R P (abs (regs (now (g .entry))) ts (now (results .entry)) ps es (now (kept .entry)) fs ns)) ≡ outcome (Found c) ns) ⌝ }
+    ensures plans { λ c. ⌜ c .plans ≡ regs (now (g .entry)) .plans ⌝ }
+{
+    workspace::pop_exact_result(g, results);
+    let count = g[KEPT] as usize;
+    let start = (g[START] % 4294967296) as u32;
+    let len = (g[LEN] % 4294967296) as u32;
+    let plans = g[PLANS];
+    let best = least_candidate(kept, count, start, len);
+    let stats = stats_of(g, plans);
     let root = best.plan;
     let cost = best.cost;
     SolvedCore {
         root: root,
         cost: cost,
-        plans: s.plans,
+        plans: plans as usize,
         stats: stats,
     }
 }
@@ -111,7 +145,7 @@ fn take_best(st: Registers, results: &[[u32; 2]], kept: &[[u64; 6]]) -> SolvedCo
 fn work_off(
     options: RenderOptions,
     b: Bounds,
-    st: Registers,
+    g: &mut [u64],
     nodes: &[[u32; 8]],
     edges: &[u32],
     choices: &[u32],
@@ -125,20 +159,19 @@ fn work_off(
     frontier: &mut [u64],
     kept: &mut [[u64; 6]],
     plans: &mut [[u32; 3]],
-) -> Answer
-    requires { ⌜ Room b (now tasks) (now results) (now pending) (now frontier) (now kept) (now plans) × (Memory b (st .memo) (now slots) (now entries) × (Sound b st × (Accepted (now nodes) (now edges) (now choices) (now texts) (space .0) × ((bytes : List ℕ) (annotations root : ℕ) → Typed (rules options) (prepared (tables (now nodes) (now edges) (now choices) (now texts) bytes annotations root (space .0))) (abs st (now tasks) (now results) (now pending) (now entries) (now kept) (now frontier) (now plans)))))) ⌝ }
-    ensures { λ a. ⌜ ((bytes : List ℕ) (annotations root : ℕ) → Meets b (counts st) (rest (rules options) (prepared (tables (now (nodes .entry)) (now (edges .entry)) (now (choices .entry)) (now (texts .entry)) bytes annotations root (space .0))) (abs st (now (tasks .entry)) (now (results .entry)) (now (pending .entry)) (now (entries .entry)) (now (kept .entry)) (now (frontier .entry)) (now (plans .entry)))) a (λ s. abs s (now (tasks .exit)) (now (results .exit)) (now (pending .exit)) (now (entries .exit)) (now (kept .exit)) (now (frontier .exit)) (now (plans .exit)))) ⌝ }
+) -> Turn
+    requires { ⌜ Room b (now tasks) (now results) (now pending) (now frontier) (now kept) (now plans) × (Memory b (regs (now g) .memo) (now slots) (now entries) × (Held b (now g) × (Accepted (now nodes) (now edges) (now choices) (now texts) (space .0) × ((bytes : List ℕ) (annotations root : ℕ) → Typed (rules options) (prepared (tables (now nodes) (now edges) (now choices) (now texts) bytes annotations root (space .0))) (abs (regs (now g)) (now tasks) (now results) (now pending) (now entries) (now kept) (now frontier) (now plans)))))) ⌝ }
+    ensures { λ a. ⌜ ((bytes : List ℕ) (annotations root : ℕ) → Meets b (counts (regs (now (g .entry)))) (rest (rules options) (prepared (tables (now (nodes .entry)) (now (edges .entry)) (now (choices .entry)) (now (texts .entry)) bytes annotations root (space .0))) (abs (regs (now (g .entry))) (now (tasks .entry)) (now (results .entry)) (now (pending .entry)) (now (entries .entry)) (now (kept .entry)) (now (frontier .entry)) (now (plans .entry)))) (answer a (now (g .exit))) (λ s. abs s (now (tasks .exit)) (now (results .exit)) (now (pending .exit)) (now (entries .exit)) (now (kept .exit)) (now (frontier .exit)) (now (plans .exit)))) ⌝ }
 {
-    let mut s = st;
-    while 0 < s.tasks {
-        let top = s.tasks - 1;
+    while 0 < g[TASKS] {
+        let top = g[TASKS] as usize - 1;
         let row = tasks[top];
         let task = workspace::row_task(row);
-        s.tasks = top;
+        g[TASKS] = top as u64;
         let a = execute_task(
             options,
             b,
-            s,
+            g,
             nodes,
             edges,
             choices,
@@ -154,22 +187,18 @@ fn work_off(
             plans,
             task,
         );
-        match a {
-            Answer::Stop(why, needed, z) => {
-                return Answer::Stop(why, needed, z);
-            }
-            Answer::Go(z) => {
-                s = z;
-            }
-        }
+        let Turn::Going = a else {
+            return a;
+        };
     }
-    Answer::Go(s)
+    Turn::Going
 }
 
 // From nothing, with the root's task, whatever the working memory holds.
 fn run_tasks(
     options: RenderOptions,
     b: Bounds,
+    g: &mut [u64],
     nodes: &[[u32; 8]],
     edges: &[u32],
     choices: &[u32],
@@ -184,37 +213,24 @@ fn run_tasks(
     frontier: &mut [u64],
     kept: &mut [[u64; 6]],
     plans: &mut [[u32; 3]],
-) -> Answer
-    requires { ⌜ Room b (now tasks) (now results) (now pending) (now frontier) (now kept) (now plans) × (MemoRoom b (now slots) (now entries) × Accepted (now nodes) (now edges) (now choices) (now texts) (space .0)) ⌝ }
-    ensures { λ a. ⌜ ((bytes : List ℕ) (annotations : ℕ) → Meets b no-counts (solve-tasks (rules options) (prepared (tables (now (nodes .entry)) (now (edges .entry)) (now (choices .entry)) (now (texts .entry)) bytes annotations (root .0) (space .0)))) a (λ s. abs s (now (tasks .exit)) (now (results .exit)) (now (pending .exit)) (now (entries .exit)) (now (kept .exit)) (now (frontier .exit)) (now (plans .exit)))) ⌝ }
+) -> Turn
+    requires { ⌜ Room b (now tasks) (now results) (now pending) (now frontier) (now kept) (now plans) × (MemoRoom b (now slots) (now entries) × (Accepted (now nodes) (now edges) (now choices) (now texts) (space .0) × (now g ≡ replicate WORDS 0))) ⌝ }
+    ensures { λ a. ⌜ ((bytes : List ℕ) (annotations : ℕ) → Meets b no-counts (solve-tasks (rules options) (prepared (tables (now (nodes .entry)) (now (edges .entry)) (now (choices .entry)) (now (texts .entry)) bytes annotations (root .0) (space .0)))) (answer a (now (g .exit))) (λ s. abs s (now (tasks .exit)) (now (results .exit)) (now (pending .exit)) (now (entries .exit)) (now (kept .exit)) (now (frontier .exit)) (now (plans .exit)))) ⌝ }
 {
-    let opened = frontier::begin_builder();
-    let none = SolveStats::ZERO;
-    let st = Registers {
-        tasks: 0,
-        results: 0,
-        pending: 0,
-        memo: 0,
-        kept: 0,
-        plans: 0,
-        start: 0,
-        len: 0,
-        builder: opened,
-        stats: none,
-    };
+    builder::begin_builder(g);
     let key = MemoKey {
         node: root.0,
         column: 0,
         indent: 0,
     };
-    let a = workspace::push_exact_task(b, st, tasks, ExactTask::Eval(key));
-    let Answer::Go(s) = a else {
+    let a = workspace::push_exact_task(b, g, tasks, ExactTask::Eval(key));
+    let Turn::Going = a else {
         return a;
     };
     work_off(
         options,
         b,
-        s,
+        g,
         nodes,
         edges,
         choices,
@@ -253,9 +269,11 @@ pub fn solve(
     ensures meets { λ a. ⌜ ((bytes : List ℕ) (annotations : ℕ) → run (limits b) no-counts (solving (rules options) (prepared (tables (now (nodes .entry)) (now (edges .entry)) (now (choices .entry)) (now (texts .entry)) bytes annotations (root .0) (space .0)))) ≡ outcome a (now (plans .exit))) ⌝ }
     ensures arranged { λ a. ⌜ ((t : ℕ) → TextsBelow t (prepared (tables (now (nodes .entry)) (now (edges .entry)) (now (choices .entry)) (now (texts .entry)) [] 0 0 (space .0))) → Plans t a (now (plans .exit))) ⌝ }
 {
+    let mut g = [0u64; WORDS];
     let a = run_tasks(
         options,
         b,
+        &mut g,
         nodes,
         edges,
         choices,
@@ -272,12 +290,12 @@ pub fn solve(
         plans,
     );
     match a {
-        Answer::Stop(why, needed, s) => {
-            let stats = s.stats;
+        Turn::Halted(why, needed) => {
+            let stats = stats_of(&g, 0);
             Solution::Refused(why, needed, stats)
         }
-        Answer::Go(s) => {
-            let core = take_best(s, results, kept);
+        Turn::Going => {
+            let core = take_best(&mut g, results, kept);
             Solution::Found(core)
         }
     }

@@ -77,13 +77,3 @@ pub fn increment(stats: &mut SolveStats, counter: SolveCounter)
 {
     *stats = incremented(*stats, counter);
 }
-
-// The same for callers that carry the record by value: it lends `increment` a copy of its own.
-pub fn with_increment(s: SolveStats, c: SolveCounter) -> SolveStats
-    requires { ⌜ counted s c + 1 < 2 ^ 64 ⌝ }
-    ensures { λ r. ⌜ r ≡ bumped s c ⌝ }
-{
-    let mut t = s;
-    increment(&mut t, c);
-    t
-}

@@ -7,7 +7,7 @@ use borrow.Author.Count.{below-more}
 use lib.ListN.{length}
 use Rattle.memo.specs.Hash.{hashOf}
 use Rattle.memo.specs.Index.{place, Passed}
-use Rattle.memo.proofs.Search.{start, next-place, passed-by}
+use Rattle.memo.proofs.Search.{some, start, start-low, next-place, passed-by}
 use Rattle.memo.proofs.find.Statement.{statement}
 use Rattle.memo.proofs.find.Tie as tie
 
@@ -18,29 +18,28 @@ Inv-loop slots entries count key n hash s₀ t₀ s t = (t ≤ length slots) × 
 abbrev μ-loop : tie.MeasureT-loop
 μ-loop slots entries count key n hash s₀ t₀ s t = length slots - t
 
-returns : tie.Need-returns Inv-loop μ-loop
-returns c = record { passed = λ j h. absurd (omega arith) }
-
 memo-hash-requires : tie.Need-memo-hash-requires Inv-loop μ-loop
 memo-hash-requires c κs = search needs
 
-rem-s : tie.Need-rem-s Inv-loop μ-loop
-rem-s c = search needs
+sub-s : tie.Need-sub-s Inv-loop μ-loop
+sub-s c = omega (arith, some (c .before .before .pre .1))
 
 loop-holds : tie.Need-loop-holds Inv-loop μ-loop
-loop-holds c = (omega arith, (mod-lt _ (omega arith), (start (c .memo-hash .result) (hashOf (c .before .before .before .args .key)) (length (c .before .before .before .args .slots .now)) (c .memo-hash .ensures), λ j h. absurd (omega arith))))
+loop-holds c =
+    let m = length (c .before .before .args .slots .now) in
+    (omega arith, (start-low (c .memo-hash .result) m (c .before .before .pre .1), (start (c .memo-hash .result) (hashOf (c .before .before .args .key)) m (c .before .before .pre .1) (c .memo-hash .ensures), λ j h. absurd (omega arith))))
 
 named-requires : tie.Need-named-requires Inv-loop μ-loop
 named-requires c κs = omega arith
 
-returns-2 : tie.Need-returns-2 Inv-loop μ-loop
-returns-2 c = record { t = c .before .before .before .loop .t; turns = c .before .before .loop-test .taken; slot = c .before .before .before .loop .inv .1 .0; ends = sym (c .before .before .before .loop .inv .1 .1 .0); dead = c .before .named .ensures .dead (c .if2 .taken); passed = c .before .before .before .loop .inv .1 .1 .1 }
+returns : tie.Need-returns Inv-loop μ-loop
+returns c = record { t = c .before .before .before .loop .t; turns = c .before .before .loop-test .taken; slot = c .before .before .before .loop .inv .1 .0; ends = sym (c .before .before .before .loop .inv .1 .1 .0); dead = c .before .named .ensures .dead (c .if1 .taken); passed = c .before .before .before .loop .inv .1 .1 .1 }
 
 same-key-requires : tie.Need-same-key-requires Inv-loop μ-loop
 same-key-requires c κs = omega (arith, c .before .named .ensures .most)
 
-returns-3 : tie.Need-returns-3 Inv-loop μ-loop
-returns-3 c = record { low = omega (arith, c .before .before .before .named .ensures .most); keyed = c .before .same-key .ensures .yes (c .if3 .taken) }
+returns-2 : tie.Need-returns-2 Inv-loop μ-loop
+returns-2 c = record { low = omega (arith, c .before .before .before .named .ensures .most); keyed = c .before .same-key .ensures .yes (c .if2 .taken) }
 
 after-requires : tie.Need-after-requires Inv-loop μ-loop
 after-requires c κs = omega arith
@@ -52,23 +51,24 @@ loop-less : tie.Need-loop-less Inv-loop μ-loop
 loop-less c = omega arith
 
 loop-again : tie.Need-loop-again Inv-loop μ-loop
-loop-again c = let ss = c .before .before .before .before .before .before .before .before .before .before .args .slots .now in
-    let es = c .before .before .before .before .before .before .before .before .before .before .args .entries .now in
-    let h = hashOf (c .before .before .before .before .before .before .before .before .before .before .args .key) in
+loop-again c =
+    let ss = c .before .before .before .before .before .before .before .before .before .args .slots .now in
+    let es = c .before .before .before .before .before .before .before .before .before .args .entries .now in
+    let h = hashOf (c .before .before .before .before .before .before .before .before .before .args .key) in
     let e = c .before .before .before .before .before .before .loop .inv .1 .1 .0 in (
       omega arith,
       (
         rw (c .after .ensures) (mod-lt _ (omega arith)),
         (
           c .after .ensures ∙ ap (λ z. (z + 1) % length ss) e ∙ next-place h (c .before .before .before .before .before .before .loop .t) (length ss),
-          below-more (λ j. Passed ss es (c .before .before .before .before .before .before .before .before .before .before .args .count) (c .before .before .before .before .before .before .before .before .before .before .args .key) (place h j (length ss))) (c .before .before .before .before .before .before .loop .t) (c .before .before .before .before .before .before .loop .inv .1 .1 .1)
-              (subst (λ z. Passed ss es (c .before .before .before .before .before .before .before .before .before .before .args .count) (c .before .before .before .before .before .before .before .before .before .before .args .key) z) e (passed-by (c .before .before .before .before .named .ensures) (c .before .before .before .if2 .left) (c .before .before .same-key .ensures) (c .before .if3 .left))),
+          below-more (λ j. Passed ss es (c .before .before .before .before .before .before .before .before .before .args .count) (c .before .before .before .before .before .before .before .before .before .args .key) (place h j (length ss))) (c .before .before .before .before .before .before .loop .t) (c .before .before .before .before .before .before .loop .inv .1 .1 .1)
+              (subst (λ z. Passed ss es (c .before .before .before .before .before .before .before .before .before .args .count) (c .before .before .before .before .before .before .before .before .before .args .key) z) e (passed-by (c .before .before .before .before .named .ensures) (c .before .before .before .if1 .left) (c .before .before .same-key .ensures) (c .before .if2 .left))),
         ),
       ),
     )
 
-returns-4 : tie.Need-returns-4 Inv-loop μ-loop
-returns-4 c = record { passed = λ j h. c .before .loop .inv .1 .1 .1 j (omega arith) }
+returns-3 : tie.Need-returns-3 Inv-loop μ-loop
+returns-3 c = record { passed = λ j h. c .before .loop .inv .1 .1 .1 j (omega arith) }
 
 pub find-spec : {M : Type 1} → statement M
 find-spec =
@@ -76,16 +76,15 @@ find-spec =
     (tie.spec
     Inv-loop
     μ-loop
-    returns
     memo-hash-requires
-    rem-s
+    sub-s
     loop-holds
     named-requires
-    returns-2
+    returns
     same-key-requires
-    returns-3
+    returns-2
     after-requires
     add-t
     loop-less
     loop-again
-    returns-4)
+    returns-3)

@@ -12,7 +12,7 @@ unfolding listed
 returns c = rw (c .if1 .taken)
 
 find-requires : tie.Need-find-requires
-find-requires c κs = search needs
+find-requires c κs = let T = c .before .before .pre in (T .room, T .power (omega (arith, T .within 0 (omega arith))))
 
 enum-known-k : tie.Need-enum-known-k
 enum-known-k c = search needs

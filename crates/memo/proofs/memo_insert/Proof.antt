@@ -15,7 +15,7 @@ returns : tie.Need-returns
 returns c = record { is = refused (c .before .before .args .slots .now) (c .before .before .args .entries .now) (c .before .before .args .count) (c .before .before .args .size) (c .if1 .taken) }
 
 find-requires : tie.Need-find-requires
-find-requires c κs = search needs
+find-requires c κs = let T = c .before .before .before .before .pre .0 in (T .room, T .power (omega arith))
 
 enum-known-s : tie.Need-enum-known-s
 enum-known-s c = search needs

@@ -1,6 +1,7 @@
 use mathlib.Core.Path.{sym}
 use denote.Ref.{now}
 use lib.Seq.{length-take-le}
+use Rattle.render.proofs.Renders.{slots-there, memo-room}
 use borrow.Author.Needs.{needs}
 use Rattle.render.proofs.call.lay_out_held.Statement.{statement}
 use Rattle.render.proofs.call.lay_out_held.Tie as tie
@@ -20,23 +21,32 @@ cast-e3 c = search needs
 cast-e4 : tie.Need-cast-e4
 cast-e4 c = search needs
 
+memo-slots-for-requires : tie.Need-memo-slots-for-requires
+memo-slots-for-requires c κs = search needs
+
 slice-aggregate-lay-out : tie.Need-slice-aggregate-lay-out
-slice-aggregate-lay-out c = sym (length-take-le (c .before .before .before .before .before .before .before .before .before .before .before .before .before .before .args .n .nodes) (now (c .before .before .before .before .before .before .before .before .before .before .before .before .before .before .args .nodes)) (c .before .before .before .before .before .before .before .before .before .before .before .before .before .before .pre .2 .nodes-in))
+slice-aggregate-lay-out c = sym (length-take-le (c .before .before .before .before .before .before .before .before .before .before .before .before .before .before .before .args .n .nodes) (now (c .before .before .before .before .before .before .before .before .before .before .before .before .before .before .before .args .nodes)) (c .before .before .before .before .before .before .before .before .before .before .before .before .before .before .before .pre .2 .nodes-in))
 
 slice-aggregate-lay-out-2 : tie.Need-slice-aggregate-lay-out-2
-slice-aggregate-lay-out-2 c = sym (length-take-le (c .before .before .before .before .before .before .before .before .before .before .before .before .before .before .before .args .n .edges) (now (c .before .before .before .before .before .before .before .before .before .before .before .before .before .before .before .args .edges)) (c .before .before .before .before .before .before .before .before .before .before .before .before .before .before .before .pre .2 .edges-in))
+slice-aggregate-lay-out-2 c = sym (length-take-le (c .before .before .before .before .before .before .before .before .before .before .before .before .before .before .before .before .args .n .edges) (now (c .before .before .before .before .before .before .before .before .before .before .before .before .before .before .before .before .args .edges)) (c .before .before .before .before .before .before .before .before .before .before .before .before .before .before .before .before .pre .2 .edges-in))
 
 slice-aggregate-lay-out-3 : tie.Need-slice-aggregate-lay-out-3
-slice-aggregate-lay-out-3 c = sym (length-take-le (c .before .before .before .before .before .before .before .before .before .before .before .before .before .before .before .before .args .n .choices) (now (c .before .before .before .before .before .before .before .before .before .before .before .before .before .before .before .before .args .choices)) (c .before .before .before .before .before .before .before .before .before .before .before .before .before .before .before .before .pre .2 .choices-in))
+slice-aggregate-lay-out-3 c = sym (length-take-le (c .before .before .before .before .before .before .before .before .before .before .before .before .before .before .before .before .before .args .n .choices) (now (c .before .before .before .before .before .before .before .before .before .before .before .before .before .before .before .before .before .args .choices)) (c .before .before .before .before .before .before .before .before .before .before .before .before .before .before .before .before .before .pre .2 .choices-in))
 
 slice-aggregate-lay-out-4 : tie.Need-slice-aggregate-lay-out-4
-slice-aggregate-lay-out-4 c = sym (length-take-le (c .before .before .before .before .before .before .before .before .before .before .before .before .before .before .before .before .before .args .n .texts) (now (c .before .before .before .before .before .before .before .before .before .before .before .before .before .before .before .before .before .args .texts)) (c .before .before .before .before .before .before .before .before .before .before .before .before .before .before .before .before .before .pre .2 .texts-in))
+slice-aggregate-lay-out-4 c = sym (length-take-le (c .before .before .before .before .before .before .before .before .before .before .before .before .before .before .before .before .before .before .args .n .texts) (now (c .before .before .before .before .before .before .before .before .before .before .before .before .before .before .before .before .before .before .args .texts)) (c .before .before .before .before .before .before .before .before .before .before .before .before .before .before .before .before .before .before .pre .2 .texts-in))
 
 slice-aggregate-lay-out-5 : tie.Need-slice-aggregate-lay-out-5
-slice-aggregate-lay-out-5 c = sym (length-take-le (c .before .before .before .before .before .before .before .before .before .before .before .before .before .before .before .before .before .before .args .n .bytes) (now (c .before .before .before .before .before .before .before .before .before .before .before .before .before .before .before .before .before .before .args .bytes)) (c .before .before .before .before .before .before .before .before .before .before .before .before .before .before .before .before .before .before .pre .2 .bytes-in))
+slice-aggregate-lay-out-5 c = sym (length-take-le (c .before .before .before .before .before .before .before .before .before .before .before .before .before .before .before .before .before .before .before .args .n .bytes) (now (c .before .before .before .before .before .before .before .before .before .before .before .before .before .before .before .before .before .before .before .args .bytes)) (c .before .before .before .before .before .before .before .before .before .before .before .before .before .before .before .before .before .before .before .pre .2 .bytes-in))
+
+slice-relend-prefix-lay-out : tie.Need-slice-relend-prefix-lay-out
+slice-relend-prefix-lay-out c = slots-there (c .before .before .before .before .before .before .before .before .before .before .before .before .before .before .before .before .before .before .before .before .before .before .pre .1) (c .before .before .before .before .before .before .before .before .memo-slots-for .ensures)
+
+slice-aggregate-lay-out-6 : tie.Need-slice-aggregate-lay-out-6
+slice-aggregate-lay-out-6 c = sym (length-take-le (c .before .before .before .before .before .before .before .before .before .memo-slots-for .result) (now (c .before .before .before .before .before .before .before .before .before .before .before .before .before .before .before .before .before .before .before .before .before .before .before .args .slots)) (slots-there (c .before .before .before .before .before .before .before .before .before .before .before .before .before .before .before .before .before .before .before .before .before .before .before .pre .1) (c .before .before .before .before .before .before .before .before .before .memo-slots-for .ensures)))
 
 lay-out-requires : tie.Need-lay-out-requires
-lay-out-requires c κs = let pre = c .before .before .before .before .before .before .before .before .before .before .before .before .before .before .before .before .before .before .before .before .before .before .before .before .before .before .before .before .before .before .pre in (pre .0, pre .1, record { accepted = pre .2 .readied .accepted; below = pre .2 .readied .below; inside = pre .2 .readied .inside }, pre .3)
+lay-out-requires c κs = let pre = c .before .before .before .before .before .before .before .before .before .before .before .before .before .before .before .before .before .before .before .before .before .before .before .before .before .before .before .before .before .before .before .pre in (pre .0, memo-room (pre .1) (c .before .before .before .before .before .before .before .before .before .before .before .before .before .before .before .before .before .memo-slots-for .ensures), record { accepted = pre .2 .readied .accepted; below = pre .2 .readied .below; inside = pre .2 .readied .inside }, pre .3)
 
 same-length : tie.Need-same-length
 same-length c = c .before .before .before .before .before .before .before .before .before .before .before .before .before .before .before .before .tasks .given
@@ -48,7 +58,7 @@ same-length-3 : tie.Need-same-length-3
 same-length-3 c = c .before .before .before .before .before .before .before .before .before .before .before .before .before .before .pending .given
 
 same-length-4 : tie.Need-same-length-4
-same-length-4 c = c .before .before .before .before .before .before .before .before .before .before .before .before .before .slots .given
+same-length-4 c = c .before .before .before .before .before .before .before .before .before .before .before .before .before .slots .given .1
 
 same-length-5 : tie.Need-same-length-5
 same-length-5 c = c .before .before .before .before .before .before .before .before .before .before .before .entries .given
@@ -86,11 +96,14 @@ lay-out-held-spec =
     cast-e2
     cast-e3
     cast-e4
+    memo-slots-for-requires
     slice-aggregate-lay-out
     slice-aggregate-lay-out-2
     slice-aggregate-lay-out-3
     slice-aggregate-lay-out-4
     slice-aggregate-lay-out-5
+    slice-relend-prefix-lay-out
+    slice-aggregate-lay-out-6
     lay-out-requires
     same-length
     same-length-2

@@ -2,7 +2,7 @@ use mathlib.Core.Path.{refl}
 use denote.Ref.{now}
 use Rattle.encode.specs.Fields.{Bytes}
 use Rattle.render.proofs.FromFile.{holding}
-use Rattle.render.proofs.Renders.{memo-room, tables-lent, file-rendering, laid-rendering}
+use Rattle.render.proofs.Renders.{tables-lent, file-rendering, laid-rendering}
 use borrow.Author.Needs.{needs}
 use Rattle.render.proofs.call.render_lent.Statement.{statement}
 use Rattle.render.proofs.call.render_lent.Tie as tie
@@ -40,7 +40,7 @@ lay-out-held-requires : tie.Need-lay-out-held-requires
 lay-out-held-requires c κs =
     let z : Bytes (now (c .before .before .before .before .before .before .before .before .before .before .before .before .before .before .before .before .before .before .before .before .before .before .before .before .before .before .before .before .before .before .before .before .before .before .before .before .before .before .before .before .before .before .before .args .file)) = record { byte = λ i. (c .before .before .before .before .before .before .before .before .before .before .before .before .before .before .before .before .before .before .before .before .before .before .before .before .before .before .before .before .before .before .before .before .before .before .before .before .before .before .before .before .before .before .shared-slice-known .given i) .fits } in
     let i = c .before .before .before .before .before .before .before .before .before .before .before .before .before .before .before .before .before .before .before .before .before .before .before .before .before .before .before .before .before .before .before .before .before .before .before .before .before .before .before .before .before .before .before .pre in
-    (record { tasks = i .solver .stacks .tasks; results = i .solver .stacks .results; pending = i .solver .stacks .pending; frontier = i .solver .stores .frontier; kept = i .solver .stores .kept; plans = i .solver .stores .plans }, record { slots = memo-room (i .solver .memo); entries = i .solver .memo .entries }, holding (now (c .before .before .before .before .before .before .before .before .before .before .before .before .before .before .before .before .before .before .before .before .before .before .before .before .before .before .before .before .before .before .before .before .before .before .before .before .before .before .before .before .before .before .before .args .file)) _ _ _ _ _ _ _ z (c .before .before .before .before .before .before .before .before .before .before .before .before .before .before .before .before .before .before .before .before .before .before .before .before .before .before .before .before .read-lent .ensures) (c .before .before .before .before .before .before .before .before .before .before .before .before .before .before .before .before .before .before .a2 .given .1), record { stack-lent = i .page .visit; held-lent = i .page .depth; output-lent = i .page .output; rows-lent = i .page .spans })
+    (record { tasks = i .solver .stacks .tasks; results = i .solver .stacks .results; pending = i .solver .stacks .pending; frontier = i .solver .stores .frontier; kept = i .solver .stores .kept; plans = i .solver .stores .plans }, record { entries-in = i .solver .memo .entries; slots-for = i .solver .memo .slots-for; is = i .solver .memo .is; slots-in = i .solver .memo .slots }, holding (now (c .before .before .before .before .before .before .before .before .before .before .before .before .before .before .before .before .before .before .before .before .before .before .before .before .before .before .before .before .before .before .before .before .before .before .before .before .before .before .before .before .before .before .before .args .file)) _ _ _ _ _ _ _ z (c .before .before .before .before .before .before .before .before .before .before .before .before .before .before .before .before .before .before .before .before .before .before .before .before .before .before .before .before .read-lent .ensures) (c .before .before .before .before .before .before .before .before .before .before .before .before .before .before .before .before .before .before .a2 .given .1), record { stack-lent = i .page .visit; held-lent = i .page .depth; output-lent = i .page .output; rows-lent = i .page .spans })
 
 same-length-6 : tie.Need-same-length-6
 same-length-6 c = c .before .before .before .before .before .before .before .before .before .before .before .before .before .before .before .before .before .before .before .before .before .before .before .before .before .before .before .before .before .before .before .before .before .before .before .before .before .before .before .before .before .before .before .before .before .nodes .given
