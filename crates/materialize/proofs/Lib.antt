@@ -1,6 +1,7 @@
 pub mod Runs
 pub mod Moves
 pub mod Turns
+pub mod Untested
 pub mod Passes
 pub mod Fills
 pub mod Parts

@@ -33,7 +33,7 @@ use Rattle.materialize.specs.declared.Measured.the-variants.{Refused}
 use Rattle.materialize.specs.Rows.{Row}
 use Rattle.materialize.specs.Texts.{text-row, text-at, InBytes}
 use Rattle.materialize.specs.Answer.{told}
-use Rattle.materialize.specs.Walks.{Around, ran, Work, Lay, item, pile, works, plan, ahead, exits, taken, at-top, at-byte, one-more, text-turn, newline-turn, two-turn, two-words, annotate-turn, annotate-words, Valid, Sound, Standing, Moved, Walked, Turned}
+use Rattle.materialize.specs.Walks.{Around, ran, Work, Lay, item, pile, works, plan, ahead, exits, at-top, at-byte, one-more, text-turn, newline-turn, two-turn, two-words, annotate-turn, annotate-words, Valid, Sound, Standing, Moved, Walked, Turned}
 use Rattle.materialize.proofs.Runs.{plan-blank, plan-put, plan-line, plan-join, plan-mark, plan-fee, visit-go, visit-stop, need-go, need-stop, each-stop}
 use Rattle.materialize.proofs.Moves.{step, moves-blank, moves-put, moves-line, moves-join, moves-mark, moves-fee, moves-exit}
 

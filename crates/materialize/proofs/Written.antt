@@ -10,24 +10,21 @@ use lib.ListN.{length, length-append, length-drop, length-replicate, getD, set, 
 use lib.Seq.{length-take-le, take-at, drop-at, getD-take}
 use Rattle.layout.specs.Layout.{Plan, page}
 use Rattle.plan.specs.Arena.{arena}
-use Rattle.machine.specs.Events.{Out, Why, Counts, done, stop}
 use Rattle.machine.specs.Materializer.{materialize}
 use Rattle.materialize.specs.declared.Capacity.{Capacity}
-use Rattle.materialize.specs.declared.Exhausted.{Exhausted}
 use Rattle.materialize.specs.declared.Walk.{Walk}
 use Rattle.materialize.specs.declared.Act.{Act}
 use Rattle.materialize.specs.declared.Act.the-variants.{Pass, Put, Line, Open, Close}
-use Rattle.materialize.specs.declared.Visited.{Visited}
-use Rattle.materialize.specs.declared.Visited.the-variants.{Stopped}
 use Rattle.materialize.specs.declared.Measured.{Measured}
 use Rattle.materialize.specs.declared.Measured.the-variants.{Page}
 use Rattle.materialize.specs.Rows.{Row, span-rows, Fits}
-use Rattle.materialize.specs.Texts.{layout, Planned}
+use Rattle.materialize.specs.Texts.{layout, InBytes, Planned}
 use Rattle.materialize.specs.Answer.{over, after, Fitting, Materialized}
-use Rattle.materialize.specs.Walks.{pile, works, plan, pages, ends, puts, Room, Sound, Walked, Turned, Answered}
+use Rattle.materialize.specs.Walks.{pile, works, plan, pages, ends, puts, Room, Passing, Sound, Walked, Answered}
 use Rattle.materialize.specs.Writes.{wrote, Under, held-after, spans-after, ActFits, Allowed, Passes, Written, Writing}
 use Rattle.materialize.proofs.Parts.{under-more, open-is, top-under, rows-is, past-is, spans-rise, under-is, rows-fit, drop-later}
-use Rattle.materialize.proofs.Passes.{some-around, agreed, turned-stopped, begin, first-pile, along-begin, none-fits}
+use Rattle.materialize.proofs.Untested.{never}
+use Rattle.materialize.proofs.Passes.{some-around, agreed, begin, first-pile, along-begin, none-fits}
 
 module _ {c : Capacity} {P X : List Row} {bytes : List ℕ} {root : ℕ} {S U : List ℕ} {w z : Walk} {a : Act} {out₀ out o : List ℕ} {s₀ s : List Row}
     (h : Writing c P X bytes root S w out₀ out o s₀ s) (g : Walked c (h .around) P X bytes S w U z a) (sd : Sound c (length P) S w)
@@ -87,13 +84,9 @@ module _ {c : Capacity} {P X : List Row} {bytes : List ℕ} {root : ℕ} {S U : 
   pub allowed : c .spans < 2 ^ 32 → Allowed a w bytes o out s
   allowed v = allowed-by a (g .moved .room) (g .moved .at-is) (omega (arith, g .sound .at-le)) (omega (arith, sd .spans-le))
 
-never : (k : Counts) (w : Why) (m : ℕ) (j : Counts) → _≡_ {A = Out (Unit {0})} (done k tt) (stop w m j) → ⊥
-never k w m j e = let z : _≡_ {A = ℕ} 0 1 = cc in omega arith
-
--- a layout that passes does not stop
-pub no-stop : {c : Capacity} {P X : List Row} {bytes : List ℕ} {root : ℕ} {w : Walk} {out₀ out o : List ℕ} {s₀ s : List Row} (e x : List ℕ) (r : Visited)
-    (h : Writing c P X bytes root (pile e (w .top)) w out₀ out o s₀ s) {n : Exhausted} {m k : ℕ} → Turned c (h .around) P X bytes e w x r → r ≡ Stopped n m k → ⊥
-no-stop {c} {P} {X} {bytes} {root} {w} e x r h {n} {m} {k} t q = never _ _ _ _ (sym (h .passes) ∙ turned-stopped c (h .around) P X bytes e x w n m k r t q)
+abbrev pub passing : {c : Capacity} {P X : List Row} {bytes : List ℕ} {root : ℕ} {w : Walk} {out₀ out o : List ℕ} {s₀ s : List Row} (e : List ℕ)
+    → Writing c P X bytes root (pile e (w .top)) w out₀ out o s₀ s → InBytes X bytes → Passing c P X e w
+passing {bytes = bytes} e h i = record { bytes = bytes; inside = i; around = h .around; visits = h .visits; passes = h .passes }
 
 pub some-visit : (c : Capacity) (p : Plan) → Passes c p → 0 < c .visit
 some-visit c p h = go (leb 1 (c .visit)) refl

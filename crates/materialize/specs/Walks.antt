@@ -1,6 +1,6 @@
 -- What the visit stack will come to, and what a turn of the walk promises. For the functions of this crate alone.
 use mathlib.Core.Path.{_≡_}
-use mathlib.Core.Bool.{cond}
+use mathlib.Core.Bool.{Bool, false, cond}
 use mathlib.Core.Option.{Option, none, some}
 use mathlib.Core.List.{List, [], _∷_, _++_, map}
 use Prim.Native.Nat.{ℕ, zero, suc, _+_, _-_, _≤_, _<_, _^_}
@@ -11,7 +11,7 @@ use Rattle.layout.specs.Layout.{Plan, page}
 use Rattle.layout.specs.Spans.{spans-from}
 use Rattle.plan.specs.Arena.{arena}
 use Rattle.plan.specs.Layouts.{Ranked}
-use Rattle.machine.specs.Events.{Bounds, Counts, Prog, ret, emit, _>>_, Out, run}
+use Rattle.machine.specs.Events.{Bounds, Counts, Prog, ret, emit, _>>_, Out, done, run}
 use Rattle.machine.specs.Events.{Visit as VisitEvent}
 use Rattle.machine.specs.Materializer.{marks, visit-plan, materialize}
 use Rattle.materialize.specs.declared.Capacity.{Capacity}
@@ -24,7 +24,7 @@ use Rattle.materialize.specs.declared.Visited.the-variants.{Went, Stoppe
 use Rattle.materialize.specs.declared.Measured.{Measured}
 use Rattle.materialize.specs.declared.Measured.the-variants.{Refused}
 use Rattle.materialize.specs.Rows.{Row, row-of}
-use Rattle.materialize.specs.Texts.{layout}
+use Rattle.materialize.specs.Texts.{layout, InBytes}
 use Rattle.materialize.specs.Answer.{with-visits, told, Sized, Small}
 
 -- ---- runs
@@ -153,9 +153,6 @@ rows Close at o s = close-last s o at
 
 -- ---- the parts of a turn, once an item is taken
 
-abbrev pub taken : Walk → Walk
-taken w = record { top = w .top - 1; depth = w .depth; at = w .at; spans = w .spans; visits = w .visits + 1 }
-
 abbrev pub at-top : Walk → ℕ → Walk
 at-top w t = record { top = t; depth = w .depth; at = w .at; spans = w .spans; visits = w .visits }
 
@@ -189,6 +186,25 @@ annotate-turn c w k =
 
 abbrev pub annotate-words : Capacity → Walk → ℕ → List ℕ → List ℕ
 annotate-words c w above e = cond (leb (w .spans + 1) (c .spans)) (cond (leb (w .depth + 1) (c .depth)) (two-words c w 0 above e) e) e
+
+-- ---- what is not tested
+
+-- a turn that passes its tests
+pub record Goes (r : Visited) : Type 0 where
+  pub walk : Walk
+  pub act : Act
+  pub is : r ≡ Went walk act
+
+abbrev pub Sure : Bool → Visited → Type 0
+Sure tested r = tested ≡ false → Goes r
+
+-- what is left passes every test, for some bytes and whatever is around
+pub record Passing (c : Capacity) (P X : List Row) (e : List ℕ) (w : Walk) : Type 0 where
+  pub bytes : List ℕ
+  pub inside : InBytes X bytes
+  pub around : Around
+  pub visits : ℕ
+  pub passes : ran c around (w .visits) (ahead (works (plan P X bytes) (pile e (w .top))) w) ≡ done (with-visits (around .counts) visits) tt
 
 -- ---- between the turns
 

@@ -2,14 +2,16 @@
 // So a refusal alters neither output nor spans, and visits are counted once.
 // Cost and column are not counted again: that the solver's cost is the layout's is a theorem about the machine, so CostWitnessMismatch never arises.
 ghost use mathlib.Core.Path.{_≡_};
+ghost use mathlib.Core.Bool.{true, false};
 ghost use mathlib.Core.List.{List, _∷_, _++_};
 ghost use Prim.Native.Nat.{ℕ, _+_, _-_, _≤_, _<_, _^_};
+ghost use lib.Dec.{leb};
 ghost use lib.ListN.{length, take, drop, getD, set, replicate};
 ghost use Rattle.tables.specs.Tables.{byte-start, byte-length};
 ghost use Rattle.materialize.specs.Rows.{parent-word};
 ghost use Rattle.materialize.specs.Texts.{text-row, layout, InBytes, Planned};
 ghost use Rattle.materialize.specs.Answer.{Small, Lent, Materialized};
-ghost use Rattle.materialize.specs.Walks.{Around, pile, plan, innermost, span-row, close, at-top, text-turn, newline-turn, two-turn, two-words, annotate-turn, annotate-words, Standing, Turned, Answered};
+ghost use Rattle.materialize.specs.Walks.{Around, pile, plan, innermost, span-row, close, at-top, text-turn, newline-turn, two-turn, two-words, annotate-turn, annotate-words, Sure, Standing, Passing, Turned, Answered};
 ghost use Rattle.materialize.specs.Writes.{wrote, Under, Allowed, Performed, Passes, Written};
 use plan::PlanId;
 use plan::PlanNode;
@@ -64,28 +66,10 @@ pub enum Visited {
     Stopped(Exhausted, usize, u64),
 }
 
-// Where a text lies among the bytes.
-pub struct Place {
-    pub start: usize,
-    pub len: usize,
-}
-
 fn wide(x: u32) -> usize
     ensures { λ r. ⌜ (r ≡ x) × (r < 2 ^ 32) ⌝ }
 {
     x as usize
-}
-
-fn text_place(texts: &[[u32; 3]], id: TextId) -> Place
-    requires { ⌜ id .0 < length (now texts) ⌝ }
-    ensures { λ r. ⌜ (r .start ≡ byte-start (text-row (now (texts .entry)) (id .0))) × (r .len ≡ byte-length (text-row (now (texts .entry)) (id .0))) × (r .len < 2 ^ 32) ⌝ }
-{
-    let i = wide(id.0);
-    let row = texts[i];
-    Place {
-        start: wide(row[2]),
-        len: wide(row[1]),
-    }
 }
 
 // The word of the visit stack that says: lay out the plan. 0 says: close the last open span.
@@ -95,15 +79,26 @@ fn word_of(id: PlanId) -> usize
     wide(id.0) + 1
 }
 
-fn visit_text(capacity: Capacity, w: Walk, texts: &[[u32; 3]], id: TextId) -> Visited
-    requires { ⌜ (id .0 < length (now texts)) × (w .at ≤ capacity .output) × Small capacity ⌝ }
+// Whether a size is exceeded. What is not tested is known to fit, so the second pass does not test again.
+fn exceeds(tested: bool, needed: usize, size: usize) -> bool
+    requires { ⌜ (tested ≡ false → leb needed size ≡ true) ⌝ }
+    ensures { λ r. ⌜ (r ≡ true → size < needed) × (r ≡ false → needed ≤ size) ⌝ }
+{
+    if tested {
+        return size < needed;
+    }
+    false
+}
+
+fn visit_text(capacity: Capacity, tested: bool, w: Walk, texts: &[[u32; 3]], id: TextId) -> Visited
+    requires { ⌜ (id .0 < length (now texts)) × (w .at ≤ capacity .output) × Small capacity × Sure tested (text-turn capacity w (byte-start (text-row (now texts) (id .0))) (byte-length (text-row (now texts) (id .0)))) ⌝ }
     ensures { λ r. ⌜ r ≡ text-turn capacity w (byte-start (text-row (now (texts .entry)) (id .0))) (byte-length (text-row (now (texts .entry)) (id .0))) ⌝ }
 {
-    let place = text_place(texts, id);
-    let start = place.start;
-    let len = place.len;
+    let row = texts[wide(id.0)];
+    let start = wide(row[2]);
+    let len = wide(row[1]);
     let end = w.at + len;
-    if capacity.output < end {
+    if exceeds(tested, end, capacity.output) {
         return Visited::Stopped(Exhausted::Output, end, w.visits);
     }
     let mut z = w;
@@ -112,35 +107,37 @@ fn visit_text(capacity: Capacity, w: Walk, texts: &[[u32; 3]], id: TextId) -> Vi
 }
 
 // One test for all its bytes: a newline that has no place costs no loop.
-fn visit_newline(capacity: Capacity, w: Walk, columns: u32) -> Visited
-    requires { ⌜ (w .at ≤ capacity .output) × Small capacity ⌝ }
+fn visit_newline(capacity: Capacity, tested: bool, w: Walk, columns: u32) -> Visited
+    requires { ⌜ (w .at ≤ capacity .output) × Small capacity × Sure tested (newline-turn capacity w columns) ⌝ }
     ensures { λ r. ⌜ r ≡ newline-turn capacity w columns ⌝ }
 {
     let indent = wide(columns);
-    if capacity.output - w.at <= indent {
+    let end = w.at + indent + 1;
+    if exceeds(tested, end, capacity.output) {
         let needed = capacity.output + 1;
         return Visited::Stopped(Exhausted::Output, needed, w.visits);
     }
     let mut z = w;
-    z.at = w.at + indent + 1;
+    z.at = end;
     Visited::Went(z, Act::Line(indent))
 }
 
 // Two items go on the visit stack. (The first alone always has a place: it takes that of the item just taken.)
 fn push_visits(
     capacity: Capacity,
+    tested: bool,
     w: Walk,
     act: Act,
     below: usize,
     above: usize,
     stack: &mut [usize],
 ) -> Visited
-    requires { ⌜ (w .top ≤ capacity .visit) × (capacity .visit ≤ length (now stack)) × Small capacity ⌝ }
+    requires { ⌜ (w .top ≤ capacity .visit) × (capacity .visit ≤ length (now stack)) × Small capacity × Sure tested (two-turn capacity w act) ⌝ }
     ensures { λ r. ⌜ (r ≡ two-turn capacity w act) × (now (stack .exit) ≡ two-words capacity w below above (now (stack .entry))) ⌝ }
 {
     let top = w.top;
     let needed = top + 2;
-    if capacity.visit < needed {
+    if exceeds(tested, needed, capacity.visit) {
         return Visited::Stopped(Exhausted::Visit, needed, w.visits);
     }
     stack[top] = below;
@@ -153,42 +150,44 @@ fn push_visits(
 // Spans, then depth, then the visit stack.
 fn visit_annotate(
     capacity: Capacity,
+    tested: bool,
     w: Walk,
     annotation: AnnotationId,
     child: PlanId,
     stack: &mut [usize],
 ) -> Visited
-    requires { ⌜ (w .top ≤ capacity .visit) × (w .spans ≤ capacity .spans) × (w .depth ≤ capacity .depth) × (capacity .visit ≤ length (now stack)) × Small capacity ⌝ }
+    requires { ⌜ (w .top ≤ capacity .visit) × (w .spans ≤ capacity .spans) × (w .depth ≤ capacity .depth) × (capacity .visit ≤ length (now stack)) × Small capacity × Sure tested (annotate-turn capacity w annotation) ⌝ }
     ensures { λ r. ⌜ (r ≡ annotate-turn capacity w annotation) × (now (stack .exit) ≡ annotate-words capacity w (child .0 + 1) (now (stack .entry))) ⌝ }
 {
     let spans = w.spans + 1;
-    if capacity.spans < spans {
+    if exceeds(tested, spans, capacity.spans) {
         return Visited::Stopped(Exhausted::Spans, spans, w.visits);
     }
     let depth = w.depth + 1;
-    if capacity.depth < depth {
+    if exceeds(tested, depth, capacity.depth) {
         return Visited::Stopped(Exhausted::Depth, depth, w.visits);
     }
     let above = word_of(child);
     let mut z = w;
     z.spans = spans;
     z.depth = depth;
-    push_visits(capacity, z, Act::Open(annotation), 0, above, stack)
+    push_visits(capacity, tested, z, Act::Open(annotation), 0, above, stack)
 }
 
 fn visit_concat(
     capacity: Capacity,
+    tested: bool,
     w: Walk,
     left: PlanId,
     right: PlanId,
     stack: &mut [usize],
 ) -> Visited
-    requires { ⌜ (w .top ≤ capacity .visit) × (capacity .visit ≤ length (now stack)) × Small capacity ⌝ }
+    requires { ⌜ (w .top ≤ capacity .visit) × (capacity .visit ≤ length (now stack)) × Small capacity × Sure tested (two-turn capacity w Act.Pass) ⌝ }
     ensures { λ r. ⌜ (r ≡ two-turn capacity w Act.Pass) × (now (stack .exit) ≡ two-words capacity w (right .0 + 1) (left .0 + 1) (now (stack .entry))) ⌝ }
 {
     let below = word_of(right);
     let above = word_of(left);
-    push_visits(capacity, w, Act::Pass, below, above, stack)
+    push_visits(capacity, tested, w, Act::Pass, below, above, stack)
 }
 
 fn visit_penalty(w: Walk, child: PlanId, stack: &mut [usize]) -> Visited
@@ -202,20 +201,18 @@ fn visit_penalty(w: Walk, child: PlanId, stack: &mut [usize]) -> Visited
     Visited::Went(z, Act::Pass)
 }
 
-// One item is taken off the visit stack: what it puts, and where the walk stands then; or the first limit that it passes.
+// One item is taken off the visit stack: what it puts, and where the walk stands then; or the first size that it passes.
 fn visit_item(
     capacity: Capacity,
+    tested: bool,
     w: Walk,
     plans: &[[u32; 3]],
     texts: &[[u32; 3]],
     stack: &mut [usize],
 ) -> Visited
-    requires { ⌜ Standing capacity (now plans) (now texts) (now stack) w ⌝ }
+    requires { ⌜ Standing capacity (now plans) (now texts) (now stack) w × (w .visits < capacity .«visit_limit») × (tested ≡ false → Passing capacity (now plans) (now texts) (now stack) w) ⌝ }
     ensures { λ r. ⌜ ((o : Around) (bytes : List ℕ) → InBytes (now (texts .entry)) bytes → Turned capacity o (now (plans .entry)) (now (texts .entry)) bytes (now (stack .entry)) w (now (stack .exit)) r) ⌝ }
 {
-    if capacity.visit_limit <= w.visits {
-        return Visited::Stopped(Exhausted::Visits, 0, w.visits);
-    }
     let top = w.top - 1;
     let item = stack[top];
     let mut z = w;
@@ -232,16 +229,16 @@ fn visit_item(
             return Visited::Went(z, Act::Pass);
         }
         PlanNode::Text(text) => {
-            return visit_text(capacity, z, texts, text);
+            return visit_text(capacity, tested, z, texts, text);
         }
         PlanNode::Newline { indent } => {
-            return visit_newline(capacity, z, indent);
+            return visit_newline(capacity, tested, z, indent);
         }
         PlanNode::Concat { left, right } => {
-            return visit_concat(capacity, z, left, right, stack);
+            return visit_concat(capacity, tested, z, left, right, stack);
         }
         PlanNode::Annotate { annotation, child } => {
-            return visit_annotate(capacity, z, annotation, child, stack);
+            return visit_annotate(capacity, tested, z, annotation, child, stack);
         }
         PlanNode::Penalty { amount: _, child } => {
             return visit_penalty(z, child, stack);
@@ -273,7 +270,10 @@ fn measure(
         visits: 0,
     };
     while 0 < w.top {
-        let s = visit_item(capacity, w, plans, texts, stack);
+        if capacity.visit_limit <= w.visits {
+            return Measured::Refused(Exhausted::Visits, 0, w.visits);
+        }
+        let s = visit_item(capacity, true, w, plans, texts, stack);
         match s {
             Visited::Stopped(e, needed, visits) => {
                 return Measured::Refused(e, needed, visits);
@@ -394,7 +394,7 @@ fn perform(
     }
 }
 
-// The second pass, over a plan that the first has passed: the page and the spans. The tests are made again, and none can fail.
+// The second pass, over a plan that the first has passed: the page and the spans. No test could fail, so none is made.
 fn write(
     capacity: Capacity,
     plans: &[[u32; 3]],
@@ -419,7 +419,7 @@ fn write(
         visits: 0,
     };
     while 0 < w.top {
-        let s = visit_item(capacity, w, plans, texts, stack);
+        let s = visit_item(capacity, false, w, plans, texts, stack);
         match s {
             Visited::Stopped(_, _, _) => {
                 return;

@@ -90,7 +90,6 @@ module _ (ss : List ℕ) (es : List (List ℕ)) (n : ℕ) (e : Entry) (s : ℕ) 
   pub grown : Sound (set ss s n) (set es n (rowOf e s)) (n + 1)
   unfolding ss′ es′ row
   grown = record {
-    power = rw length-set (T .power);
     room = rw length-set (omega arith);
     within = below-more (λ k. word es′ k 5 < length ss′) n (λ k l. rw (wide, old k l 5) (T .within k l)) (rw (wide, last) (g .slot));
     named = below-more (λ k. getD ss′ (word es′ k 5) 0 ≡ k) n
@@ -108,6 +107,7 @@ module _ (ss : List ℕ) (es : List (List ℕ)) (n : ℕ) (e : Entry) (s : ℕ) 
         (λ j lj p. absurd (none j lj (sym (old-key j lj) ∙ sym p ∙ last-key)))
         (λ p. refl))
         k hk j hj;
+    power = rw length-set (T .power);
   }
 
   pub more : listed (set es n (rowOf e s)) (n + 1) ≡ listed es n ++ (e ∷ [])

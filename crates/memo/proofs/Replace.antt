@@ -71,12 +71,12 @@ module _ (ss : List ℕ) (es es′ : List (List ℕ)) (n : ℕ) (len : length es
 
   still : Sound ss es n → Sound ss es′ n
   still T = record {
-    power = T .power;
     room = omega (arith, T .room);
     within = λ k l. rw (at k) (T .within k l);
     named = λ k l. rw (at k) (T .named k l);
     path = λ k l. rw (keys k, at k) (path (hashOf (keyAt es k)) (word es k 5) (T .path k l));
     single = λ k j lk lj p. T .single k j lk lj (sym (keys k) ∙ p ∙ keys j);
+    power = T .power;
   }
 
 module _ (es : List (List ℕ)) (k : ℕ) (e : Entry) (lk : k < length es) (q : keyAt es k ≡ e .key) where

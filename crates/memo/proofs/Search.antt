@@ -22,9 +22,8 @@ told-no h = record { yes = λ e. absurd (no-both (sym e)); no = λ e. h }
 pub told-yes : (es : List (List ℕ)) (k : ℕ) (key : MemoKey) → word es k 0 ≡ key .node → word es k 1 ≡ key .column → word es k 2 ≡ key .indent → Told es k key true
 told-yes es k key p q r = record { yes = λ e. key-of (keyAt es k) key p q r; no = λ e w. no-both e }
 
--- a power of two is not 0
-pub some : {m : ℕ} → Power m → 0 < m
-some p = rw (p .is) (pow-pos (p .exponent))
+pub positive : {m : ℕ} → Power m → 0 < m
+positive p = rw (p .is) (pow-pos (p .exponent))
 
 -- the mask that `find` takes is the remainder
 masked : (h m : ℕ) → Power m → bitAnd h (m - 1) ≡ h % m
@@ -35,7 +34,7 @@ unfolding place
 start r h m p e = rw (e, masked h m p, add-zero (h % m), mod-mod h m)
 
 pub start-low : (r m : ℕ) → Power m → bitAnd r (m - 1) < m
-start-low r m p = rw (masked r m p) (mod-lt r (some p))
+start-low r m p = rw (masked r m p) (mod-lt r (positive p))
 
 pub next-place : (h t m : ℕ) → (place h t m + 1) % m ≡ place h (t + 1) m
 unfolding place

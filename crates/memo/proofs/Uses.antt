@@ -103,6 +103,7 @@ least-single {e} p q =
 pub slots-enough : {e s : ℕ} → SlotsFor e s → e ≤ s
 slots-enough {e} p = ⊎-elim (λ z. omega arith) (λ ne. omega (arith, p .some ne .room)) (equal? e 0)
 
+-- eight times a power of two is one
 slots-power : {e s : ℕ} → SlotsFor e s → 0 < s → Power s
 slots-power {e} p h =
     ⊎-elim (λ z. absurd (omega (arith, p .none z)))
@@ -113,12 +114,12 @@ slots-power {e} p h =
 -- in as many slots any memory is sound at 0 entries
 pub fresh : {e : ℕ} (ss : List ℕ) (es : List (List ℕ)) → SlotsFor e (length ss) → Sound ss es 0
 fresh ss es p = record {
-  power = slots-power p;
   room = omega arith;
   within = λ k h. absurd (omega arith);
   named = λ k h. absurd (omega arith);
   path = λ k h. absurd (omega arith);
   single = λ k j h g q. absurd (omega arith);
+  power = slots-power p;
 }
 
 -- ---- for the invariant of a caller: what holds of each entry

@@ -33,14 +33,14 @@ pub record Path (ss : List ℕ) (es : List (List ℕ)) (n m h s : ℕ) : Type 0 
   pub ends : place h far m ≡ s
   pub full : (j : ℕ) → j < far → Live ss es n (place h j m)
 
--- each of the first n entries stands at its slot, a search comes there, and no key has two; the slots, if there are any, are a power of two
+-- each of the first n entries stands at its slot, a search comes there, and no key has two; and the number of slots is 0 or a power of two
 pub record Sound (ss : List ℕ) (es : List (List ℕ)) (n : ℕ) : Type 0 where
-  pub power : 0 < length ss → Power (length ss)
   pub room : n ≤ length es
   pub within : (k : ℕ) → k < n → word es k 5 < length ss
   pub named : (k : ℕ) → k < n → getD ss (word es k 5) 0 ≡ k
   pub path : (k : ℕ) → k < n → Path ss es n (length ss) (hashOf (keyAt es k)) (word es k 5)
   pub single : (k j : ℕ) → k < n → j < n → keyAt es k ≡ keyAt es j → k ≡ j
+  pub power : 0 < length ss → Power (length ss)
 
 -- ---- what an insertion leaves
 

@@ -6,6 +6,8 @@ use borrow.Author.Needs.{needs}
 use lib.ListN.{length, length-set}
 use Rattle.materialize.specs.Texts.{InBytes}
 use Rattle.materialize.specs.Walks.{Around, pile, plan, Sound}
+use Rattle.materialize.proofs.Turns.{spent}
+use Rattle.materialize.proofs.Untested.{told-apart}
 use Rattle.materialize.proofs.Passes.{Along, none-fits, sound-begin, along-begin, along-step, along-stop, along-end, turned-went, turned-stopped, some-bytes, in-some, some-around}
 use Rattle.materialize.proofs.measure.Statement.{statement}
 use Rattle.materialize.proofs.measure.Tie as tie
@@ -19,7 +21,7 @@ abbrev μ-loop : tie.MeasureT-loop
 μ-loop capacity plans texts stack₀ number w₀ stack w = capacity .«visit_limit» - w .visits
 
 returns : tie.Need-returns Inv-loop μ-loop
-returns c = λ bytes ib. none-fits (c .before .before .before .args .capacity) (plan (c .before .before .before .args .plans .now) (c .before .before .before .args .texts .now) bytes (c .before .before .before .args .root .0)) (c .if1 .taken)
+returns c = let a = c .before .before .before .args in λ bytes ib. none-fits (a .capacity) (plan (a .plans .now) (a .texts .now) bytes (a .root .0)) (c .if1 .taken)
 
 word-of-requires : tie.Need-word-of-requires Inv-loop μ-loop
 word-of-requires c κs = search needs
@@ -38,70 +40,80 @@ loop-holds c =
       λ o bytes ib. along-begin (a .capacity) o (a .plans .now) (a .texts .now) bytes (a .root .0) (a .stack .now) v h,
     )
 
+same-length : tie.Need-same-length Inv-loop μ-loop
+same-length c = c .before .before .before .before .before .loop .inv .0 ∙ length-set (c .before .before .before .before .before .before .before .before .before .before .args .stack .now) 0 (c .before .before .before .before .before .before .word-of .result)
+
+returns-2 : tie.Need-returns-2 Inv-loop μ-loop
+returns-2 c =
+    let a = c .before .before .before .before .before .before .before .before .before .before .args in
+    let l = c .before .before .before .before .before .loop in
+    λ bytes ib. along-stop (a .capacity) (a .plans .now) (a .texts .now) bytes (a .root .0) _ (l .w) _ _ _ (λ o. l .inv .2 o bytes ib)
+    (λ o. spent (a .capacity) o (a .plans .now) (a .texts .now) bytes (l .stack) (l .w) (l .w .top - 1) (omega (arith, c .before .before .before .if2 .taken)) (c .if3 .taken))
+
 visit-item-requires : tie.Need-visit-item-requires Inv-loop μ-loop
-visit-item-requires c κs =
-    record {
-      some-left = c .before .if2 .taken;
-      stack-lent = omega (arith, c .before .before .before .before .before .before .before .before .pre .0, c .before .before .before .loop .inv .0, length-set (c .before .before .before .before .before .before .before .before .args .stack .now) 0 (c .before .before .before .before .word-of .result));
-      small = c .before .before .before .before .before .before .before .before .pre .1;
-      few = c .before .before .before .before .before .before .before .before .pre .2 .few;
-      ranked = c .before .before .before .before .before .before .before .before .pre .2 .ranked;
-      sound = c .before .before .before .loop .inv .1;
-    }
+visit-item-requires c κs = (
+  record {
+    some-left = c .before .before .before .before .if2 .taken;
+    stack-lent = omega (arith, c .before .before .before .before .before .before .before .before .before .before .before .pre .0, c .before .before .before .before .before .before .loop .inv .0, length-set (c .before .before .before .before .before .before .before .before .before .before .before .args .stack .now) 0 (c .before .before .before .before .before .before .before .word-of .result));
+    small = c .before .before .before .before .before .before .before .before .before .before .before .pre .1;
+    few = c .before .before .before .before .before .before .before .before .before .before .before .pre .2 .few;
+    ranked = c .before .before .before .before .before .before .before .before .before .before .before .pre .2 .ranked;
+    sound = c .before .before .before .before .before .before .loop .inv .1;
+  },
+  c .before .if3 .left,
+  λ e. told-apart e,
+)
 
 enum-known-s : tie.Need-enum-known-s Inv-loop μ-loop
 enum-known-s c = search needs
 
-same-length : tie.Need-same-length Inv-loop μ-loop
-same-length c = omega (arith, c .before .before .before .before .before .before .before .before .before .loop .inv .0, c .before .before .before .before .before .visit-item .kept, length-set (c .before .before .before .before .before .before .before .before .before .before .before .before .before .before .args .stack .now) 0 (c .before .before .before .before .before .before .before .before .before .before .word-of .result))
+same-length-2 : tie.Need-same-length-2 Inv-loop μ-loop
+same-length-2 c = omega (arith, c .before .before .before .before .before .before .before .before .before .before .before .before .loop .inv .0, c .before .before .before .before .before .visit-item .kept, length-set (c .before .before .before .before .before .before .before .before .before .before .before .before .before .before .before .before .before .args .stack .now) 0 (c .before .before .before .before .before .before .before .before .before .before .before .before .before .word-of .result))
 
-returns-2 : tie.Need-returns-2 Inv-loop μ-loop
-returns-2 c =
-    let a = c .before .before .before .before .before .before .before .before .before .before .before .before .before .before .args in
+returns-3 : tie.Need-returns-3 Inv-loop μ-loop
+returns-3 c =
+    let a = c .before .before .before .before .before .before .before .before .before .before .before .before .before .before .before .before .before .args in
     let P = a .plans .now in
     let X = a .texts .now in
-    let l = c .before .before .before .before .before .before .before .before .before .loop in
-    let w = l .w in
+    let l = c .before .before .before .before .before .before .before .before .before .before .before .before .loop in
     let r = c .before .before .before .before .before .visit-item .result in
-    let x = c .before .before .before .before .before .visit-item .last .1 .1 .1 .1 .0 in
-    λ bytes ib. along-stop (a .capacity) P X bytes (a .root .0) _ w _ _ _ (λ o. l .inv .2 o bytes ib)
-    (λ o. turned-stopped (a .capacity) o P X bytes (l .stack) x w _ _ _ r (c .before .before .before .before .before .visit-item .ensures o bytes ib) (c .before .s .given .1))
+    let x = c .before .before .before .before .before .visit-item .last .1 .1 .1 .1 .1 .0 in
+    λ bytes ib. along-stop (a .capacity) P X bytes (a .root .0) _ (l .w) _ _ _ (λ o. l .inv .2 o bytes ib)
+    (λ o. turned-stopped (a .capacity) o P X bytes (l .stack) x (l .w) _ _ _ r (c .before .before .before .before .before .visit-item .ensures o bytes ib) (c .before .s .given .1))
 
 enum-known-s-2 : tie.Need-enum-known-s-2 Inv-loop μ-loop
 enum-known-s-2 c = search needs
 
 loop-less : tie.Need-loop-less Inv-loop μ-loop
 loop-less c =
-    let a = c .before .before .before .before .before .before .before .before .before .before .before .before .before .before .args in
+    let a = c .before .before .before .before .before .before .before .before .before .before .before .before .before .before .before .before .before .args in
     let P = a .plans .now in
     let X = a .texts .now in
-    let l = c .before .before .before .before .before .before .before .before .before .loop in
-    let w = l .w in
+    let l = c .before .before .before .before .before .before .before .before .before .before .before .before .loop in
     let r = c .before .before .before .before .before .visit-item .result in
-    let x = c .before .before .before .before .before .visit-item .last .1 .1 .1 .1 .0 in
-    let g = turned-went (a .capacity) some-around P X (some-bytes X) (l .stack) x w _ _ r (c .before .before .before .before .before .visit-item .ensures some-around (some-bytes X) (in-some X)) (c .before .s2 .given .1) in
+    let x = c .before .before .before .before .before .visit-item .last .1 .1 .1 .1 .1 .0 in
+    let g = turned-went (a .capacity) some-around P X (some-bytes X) (l .stack) x (l .w) _ _ r (c .before .before .before .before .before .visit-item .ensures some-around (some-bytes X) (in-some X)) (c .before .s2 .given .1) in
     omega (arith, g .moved .counted, g .sound .visits-le)
 
 loop-again : tie.Need-loop-again Inv-loop μ-loop
 loop-again c =
-    let a = c .before .before .before .before .before .before .before .before .before .before .before .before .before .before .args in
+    let a = c .before .before .before .before .before .before .before .before .before .before .before .before .before .before .before .before .before .args in
     let P = a .plans .now in
     let X = a .texts .now in
-    let l = c .before .before .before .before .before .before .before .before .before .loop in
-    let w = l .w in
+    let l = c .before .before .before .before .before .before .before .before .before .before .before .before .loop in
     let r = c .before .before .before .before .before .visit-item .result in
-    let x = c .before .before .before .before .before .visit-item .last .1 .1 .1 .1 .0 in
-    let g = turned-went (a .capacity) some-around P X (some-bytes X) (l .stack) x w _ _ r (c .before .before .before .before .before .visit-item .ensures some-around (some-bytes X) (in-some X)) (c .before .s2 .given .1) in (
+    let x = c .before .before .before .before .before .visit-item .last .1 .1 .1 .1 .1 .0 in
+    let g = turned-went (a .capacity) some-around P X (some-bytes X) (l .stack) x (l .w) _ _ r (c .before .before .before .before .before .visit-item .ensures some-around (some-bytes X) (in-some X)) (c .before .s2 .given .1) in (
       omega (arith, l .inv .0, c .before .before .before .before .before .visit-item .kept),
       g .sound,
-      λ o bytes ib. along-step (l .inv .2 o bytes ib) (turned-went (a .capacity) o P X bytes (l .stack) x w _ _ r (c .before .before .before .before .before .visit-item .ensures o bytes ib) (c .before .s2 .given .1)),
+      λ o bytes ib. along-step (l .inv .2 o bytes ib) (turned-went (a .capacity) o P X bytes (l .stack) x (l .w) _ _ r (c .before .before .before .before .before .visit-item .ensures o bytes ib) (c .before .s2 .given .1)),
     )
 
-same-length-2 : tie.Need-same-length-2 Inv-loop μ-loop
-same-length-2 c = c .before .before .loop .inv .0 ∙ length-set (c .before .before .before .before .before .before .before .args .stack .now) 0 (c .before .before .before .word-of .result)
+same-length-3 : tie.Need-same-length-3 Inv-loop μ-loop
+same-length-3 c = c .before .before .loop .inv .0 ∙ length-set (c .before .before .before .before .before .before .before .args .stack .now) 0 (c .before .before .before .word-of .result)
 
-returns-3 : tie.Need-returns-3 Inv-loop μ-loop
-returns-3 c =
+returns-4 : tie.Need-returns-4 Inv-loop μ-loop
+returns-4 c =
     let a = c .before .before .before .before .before .before .before .args in
     let l = c .before .before .loop in
     λ bytes ib. along-end (a .capacity) (a .plans .now) (a .texts .now) bytes (a .root .0) (l .stack) (l .w) (λ o. l .inv .2 o bytes ib) (omega (arith, c .if2 .left))
@@ -116,12 +128,14 @@ measure-spec =
     word-of-requires
     slice-write-stack
     loop-holds
-    visit-item-requires
-    enum-known-s
     same-length
     returns-2
+    visit-item-requires
+    enum-known-s
+    same-length-2
+    returns-3
     enum-known-s-2
     loop-less
     loop-again
-    same-length-2
-    returns-3)
+    same-length-3
+    returns-4)

@@ -6,7 +6,8 @@ use lib.ListN.{length, length-set}
 use Rattle.materialize.specs.Walks.{pile, plan, Sound}
 use Rattle.materialize.specs.Writes.{Writing}
 use Rattle.materialize.proofs.Passes.{sound-begin, turned-went}
-use Rattle.materialize.proofs.Written.{writing-step, allowed, no-stop, some-visit, writing-begin, written-end}
+use Rattle.materialize.proofs.Untested.{no-stop, not-spent}
+use Rattle.materialize.proofs.Written.{writing-step, allowed, passing, some-visit, writing-begin, written-end}
 use Rattle.materialize.proofs.write.Statement.{statement}
 use Rattle.materialize.proofs.write.Tie as tie
 
@@ -51,14 +52,20 @@ loop-holds c =
 
 visit-item-requires : tie.Need-visit-item-requires Inv-loop μ-loop
 visit-item-requires c κs =
-    record {
-      some-left = c .before .if1 .taken;
-      stack-lent = omega (arith, c .before .before .before .before .before .before .before .before .before .pre .0 .stack-lent, c .before .before .before .loop .inv .0, length-set (c .before .before .before .before .before .before .before .before .before .args .stack .now) 0 (c .before .before .before .before .word-of .result));
-      small = c .before .before .before .before .before .before .before .before .before .pre .0 .small;
-      few = c .before .before .before .before .before .before .before .before .before .pre .1 .few;
-      ranked = c .before .before .before .before .before .before .before .before .before .pre .1 .ranked;
-      sound = c .before .before .before .loop .inv .4;
-    }
+    let pre = c .before .before .before .before .before .before .before .before .before .pre in
+    let l = c .before .before .before .loop in
+    let h = passing (l .stack) (l .inv .5) (pre .2) in (
+      record {
+        some-left = c .before .if1 .taken;
+        stack-lent = omega (arith, pre .0 .stack-lent, l .inv .0, length-set (c .before .before .before .before .before .before .before .before .before .args .stack .now) 0 (c .before .before .before .before .word-of .result));
+        small = pre .0 .small;
+        few = pre .1 .few;
+        ranked = pre .1 .ranked;
+        sound = l .inv .4;
+      },
+      not-spent h (l .w .top - 1) (omega (arith, c .before .if1 .taken)),
+      λ f. h,
+    )
 
 enum-told : tie.Need-enum-told Inv-loop μ-loop
 enum-told c = search needs
@@ -86,8 +93,8 @@ returns c =
     let w = l .w in
     let v = l .inv in
     let r = c .before .before .before .before .visit-item .result in
-    let x = c .before .before .before .before .visit-item .last .1 .1 .1 .1 .0 in
-    absurd (no-stop (l .stack) x r (v .5) (c .before .before .before .before .visit-item .ensures (v .5 .around) b (pre .2)) (c .enum-told .given .1))
+    let x = c .before .before .before .before .visit-item .last .1 .1 .1 .1 .1 .0 in
+    absurd (no-stop (passing (l .stack) (v .5) (pre .2)) x r (c .before .before .before .before .visit-item .ensures (v .5 .around) b (pre .2)) (c .enum-told .given .1))
 
 enum-known-s : tie.Need-enum-known-s Inv-loop μ-loop
 enum-known-s c = search needs
@@ -103,7 +110,7 @@ perform-requires c κs =
     let w = l .w in
     let v = l .inv in
     let r = c .before .before .before .before .before .before .before .before .visit-item .result in
-    let x = c .before .before .before .before .before .before .before .before .visit-item .last .1 .1 .1 .1 .0 in
+    let x = c .before .before .before .before .before .before .before .before .visit-item .last .1 .1 .1 .1 .1 .0 in
     let g = turned-went (a .capacity) (v .5 .around) P X b (l .stack) x w _ _ r (c .before .before .before .before .before .before .before .before .visit-item .ensures (v .5 .around) b (pre .2)) (c .before .before .before .before .s .given .1) in
     allowed (v .5) g (v .4) (omega (arith, v .2, pre .0 .output-lent)) (omega (arith, v .1, pre .0 .held-lent)) (omega (arith, v .3, pre .0 .spans-lent)) (pre .0 .small .spans-fits)
 
@@ -118,7 +125,7 @@ loop-less c =
     let w = l .w in
     let v = l .inv in
     let r = c .before .before .before .before .before .before .before .before .before .before .before .before .before .before .visit-item .result in
-    let x = c .before .before .before .before .before .before .before .before .before .before .before .before .before .before .visit-item .last .1 .1 .1 .1 .0 in
+    let x = c .before .before .before .before .before .before .before .before .before .before .before .before .before .before .visit-item .last .1 .1 .1 .1 .1 .0 in
     let g = turned-went (a .capacity) (v .5 .around) P X b (l .stack) x w _ _ r (c .before .before .before .before .before .before .before .before .before .before .before .before .before .before .visit-item .ensures (v .5 .around) b (pre .2)) (c .before .before .before .before .before .before .before .before .before .before .s .given .1) in
     omega (arith, g .moved .counted, g .sound .visits-le)
 
@@ -133,7 +140,7 @@ loop-again c =
     let w = l .w in
     let v = l .inv in
     let r = c .before .before .before .before .before .before .before .before .before .before .before .before .before .before .visit-item .result in
-    let x = c .before .before .before .before .before .before .before .before .before .before .before .before .before .before .visit-item .last .1 .1 .1 .1 .0 in
+    let x = c .before .before .before .before .before .before .before .before .before .before .before .before .before .before .visit-item .last .1 .1 .1 .1 .1 .0 in
     let g = turned-went (a .capacity) (v .5 .around) P X b (l .stack) x w _ _ r (c .before .before .before .before .before .before .before .before .before .before .before .before .before .before .visit-item .ensures (v .5 .around) b (pre .2)) (c .before .before .before .before .before .before .before .before .before .before .s .given .1) in
     let st = writing-step (v .5) g (v .4) (omega (arith, v .2, pre .0 .output-lent)) (omega (arith, v .1, pre .0 .held-lent)) (omega (arith, v .3, pre .0 .spans-lent)) (pre .0 .small .spans-fits) (c .before .before .before .before .before .perform .ensures .fits) in (
       omega (arith, v .0, c .before .before .before .before .before .before .before .before .before .before .before .before .before .before .visit-item .kept),

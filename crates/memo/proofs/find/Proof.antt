@@ -7,7 +7,7 @@ use borrow.Author.Count.{below-more}
 use lib.ListN.{length}
 use Rattle.memo.specs.Hash.{hashOf}
 use Rattle.memo.specs.Index.{place, Passed}
-use Rattle.memo.proofs.Search.{some, start, start-low, next-place, passed-by}
+use Rattle.memo.proofs.Search.{positive, start, start-low, next-place, passed-by}
 use Rattle.memo.proofs.find.Statement.{statement}
 use Rattle.memo.proofs.find.Tie as tie
 
@@ -22,7 +22,7 @@ memo-hash-requires : tie.Need-memo-hash-requires Inv-loop μ-loop
 memo-hash-requires c κs = search needs
 
 sub-s : tie.Need-sub-s Inv-loop μ-loop
-sub-s c = omega (arith, some (c .before .before .pre .1))
+sub-s c = omega (arith, positive (c .before .before .pre .1))
 
 loop-holds : tie.Need-loop-holds Inv-loop μ-loop
 loop-holds c =
