@@ -2,10 +2,10 @@
 use mathlib.Core.List.{List}
 use Prim.Native.Nat.{ℕ, _≤_}
 use Rattle.layout.specs.Rules.{Rules, squares}
-use Rattle.form.specs.Form.{tablesOf, countsOf}
+use Rattle.file_form.specs.Form.{tablesOf, countsOf}
 use Rattle.prepare.specs.declared.read.Answer.the-variants.{Accepted, Refused}
 use Rattle.prepare.specs.File.{Means}
-use Rattle.reading.specs.Reading.{prepared}
+use Rattle.machine_input.specs.Reading.{prepared}
 use Rattle.machine.specs.Events.{Bounds, no-counts}
 use Rattle.machine.specs.Model.{Prepared}
 use Rattle.machine.specs.Answer.{Answer, refused, answer}

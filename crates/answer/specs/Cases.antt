@@ -10,21 +10,21 @@ use Rattle.cost.specs.Cost.{cheap, cheaper}
 use Rattle.memo.specs.Entries.{same}
 use Rattle.layout.specs.Frontier.{covers}
 use Rattle.layout.specs.Frontier.{present as presented}
-use Rattle.tables.specs.Tables.{Tables, kind, first, flat, flat-mark, choice-length, skipped}
-use Rattle.form.specs.Kinds.{named, hasFirst, hasSecond, mapRight, pairRight}
-use Rattle.form.specs.Form.{formFault, tablesOf, countsOf}
-use Rattle.encode.specs.Encode.{mapOf, headerMap, encHeader, nodeMap, encNode, textMap, encText, encTexts, each, encode, lengths, Sized}
-use Rattle.encode.specs.Faults.{nodeRight, nodesFault, textsFault, headerFault, tablesFault}
-use Rattle.encode.specs.Trips.{reads-back}
-use Rattle.rules.specs.References.{Child, of-group, of-nest, of-align, preferred, alternative, of-annotate, of-penalty, Ranged, seq, fill, counts, Named, References}
-use Rattle.rules.specs.Texts.{TextOk, text-bytes}
-use Rattle.rules.specs.Circle.{Refers, child, edge, flat-of-child, Leads, one, more, Circle}
-use Rattle.rules.specs.Choice.{two, choice-list, Comes, ListsRight}
-use Rattle.rules.specs.Judged.{Judged, space as wrong-space, accepted}
-use Rattle.rules.proofs.ByKind.{flat-none}
+use Rattle.file_tables.specs.Tables.{Tables, kind, first, flat, flat-mark, choice-length, skipped}
+use Rattle.file_form.specs.Kinds.{named, hasFirst, hasSecond, mapRight, pairRight}
+use Rattle.file_form.specs.Form.{formFault, tablesOf, countsOf}
+use Rattle.file_encode.specs.Encode.{mapOf, headerMap, encHeader, nodeMap, encNode, textMap, encText, encTexts, each, encode, lengths, Sized}
+use Rattle.file_encode.specs.Faults.{nodeRight, nodesFault, textsFault, headerFault, tablesFault}
+use Rattle.file_encode.specs.Trips.{reads-back}
+use Rattle.file_checks.specs.References.{Child, of-group, of-nest, of-align, preferred, alternative, of-annotate, of-penalty, Ranged, seq, fill, lengths-of, Named, References}
+use Rattle.file_checks.specs.Texts.{TextOk, text-bytes}
+use Rattle.file_checks.specs.Circle.{Refers, child, edge, flat-of-child, Leads, one, more, Circle}
+use Rattle.file_checks.specs.Choice.{two, choice-list, Comes, ListsRight}
+use Rattle.file_checks.specs.Judged.{Judged, space as wrong-space, accepted}
+use Rattle.file_checks.proofs.ByKind.{flat-none}
 use Rattle.prepare.specs.declared.read.Answer.the-variants.{Accepted}
 use Rattle.prepare.specs.File.{Means, wrong, right}
-use Rattle.reading.specs.Reading.{node-of-row, choice-of-row, prepared}
+use Rattle.machine_input.specs.Reading.{node-of-row, choice-of-row, prepared}
 use Rattle.machine.specs.Events.{Bounds, Counts, no-counts}
 use Rattle.machine.specs.Model.{plan-at}
 use Rattle.machine.specs.Solver.{push-exact-task, push-exact-result, push-pending, checked-add, present, present-all, additional-plans, committed, finish-builder, singleton, present-range, union-ranges, present-wrapped, wrap-range, memo-insert, complete-node, push-joined, build-pending}
@@ -64,7 +64,7 @@ module _ (row : List ℕ) (texts : List (List ℕ)) (bytes : List ℕ) (space : 
   no-flat : (j : ℕ) → flat row ≡ some j → ⊥
   no-flat j e = flat-none row j (λ m. omega (arith, l .unmarked)) e
 
-  row-named : Named (counts (leaf row texts bytes space)) row
+  row-named : Named (lengths-of (leaf row texts bytes space)) row
   row-named = record {
     by-kind = record { text = λ e. l .text-there; annotation = λ e. absurd (omega (arith, l .low)); child = λ j c. absurd (no-child j c); edge-range = λ g. absurd (no-range g) };
     flat-node = λ j e. absurd (no-flat j e);
@@ -80,7 +80,7 @@ module _ (row : List ℕ) (texts : List (List ℕ)) (bytes : List ℕ) (space : 
     nodes = record { each = rows };
   }
     where
-      rows : (i : ℕ) → i < length (row ∷ []) → Named (counts (leaf row texts bytes space)) (getD (row ∷ []) i [])
+      rows : (i : ℕ) → i < length (row ∷ []) → Named (lengths-of (leaf row texts bytes space)) (getD (row ∷ []) i [])
       rows zero h = row-named
       rows (suc i) h = absurd (omega arith)
 

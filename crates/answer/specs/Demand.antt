@@ -4,15 +4,15 @@ use mathlib.Core.List.{List}
 use Prim.Native.Nat.{ℕ, _≤_}
 use native.Mathlib.Omega.{arith}
 use Rattle.layout.specs.Squares.{squares-lawful}
-use Rattle.encode.specs.Fields.{Bytes}
+use Rattle.file_encode.specs.Fields.{Bytes}
 use Rattle.machine.specs.Events.{Bounds, Counts}
 use Rattle.machine.specs.Materializer.{Rendered}
 use Rattle.machine.specs.Answer.{Answer, paged, refused, answer}
 use Rattle.machine.specs.Balance.{Balanced, counts-in, balanced-answer}
 use Rattle.machine.specs.Larger.{Larger, larger-answer}
-use Rattle.meaning.specs.Pruned.{Fair, fair-answer}
-use Rattle.meaning.specs.Right.{RightPage, Right, answer-right}
-use Rattle.meaning.specs.Right.{right-page as found-page, right-refusal as found-refusal}
+use Rattle.machine_right.specs.Pruned.{Fair, fair-answer}
+use Rattle.machine_right.specs.Right.{RightPage, Right, answer-right}
+use Rattle.machine_right.specs.Right.{right-page as found-page, right-refusal as found-refusal}
 use Rattle.answer.specs.Answer.{Settings, rules-of, document-of, Answers, out-of-order, wrong-file, laid-out}
 use Rattle.answer.specs.Page.{RulesPage, Promised, right-page, right-refusal}
 use Rattle.answer.specs.Ready.{means-ready}

@@ -5,10 +5,10 @@ use mathlib.Core.List.{List}
 use Prim.Native.Nat.{ℕ}
 use native.Mathlib.Omega.{arith}
 use native.Mathlib.Decide.{ℕ-discrete, decLt}
-use Rattle.form.specs.declared.fill.Counts.{Counts}
-use Rattle.form.specs.Form.{formFault, tablesOf, countsOf}
-use Rattle.rules.specs.Judged.{Judged}
-use Rattle.rules.proofs.Exactly.{Verdict, verdict}
+use Rattle.file_form.specs.declared.fill.Counts.{Counts}
+use Rattle.file_form.specs.Form.{formFault, tablesOf, countsOf}
+use Rattle.file_checks.specs.Judged.{Judged}
+use Rattle.file_checks.proofs.Exactly.{Verdict, verdict}
 use Rattle.prepare.specs.declared.read.Answer.{Answer as FileAnswer}
 use Rattle.prepare.specs.declared.read.Answer.the-variants.{Accepted, Refused}
 use Rattle.prepare.specs.File.{Means, ill, wrong, right}

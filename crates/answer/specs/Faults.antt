@@ -6,15 +6,15 @@ use Prim.Native.Nat.{ℕ, zero, suc, _≤_, _+_}
 use native.Mathlib.Omega.{arith}
 use lib.ListN.{length}
 use lib.Dec.{ltb, leb, eqb}
-use Rattle.tables.specs.Tables.{Tables}
-use Rattle.fields.specs.declared.Step.{Step}
-use Rattle.fields.specs.Fields.{pick, got, refused, after, byteAt, wordAt, nonzero, fieldAt, numberAt, limited, countAt, formed}
-use Rattle.fields.specs.Header.{hMap, hNodes, hEdges, hTexts, hAnnotations, hChoices, hRoot, hSpace, headerAt}
-use Rattle.form.specs.Nodes.{checked, mapAt, kindAt, nMap, nKind, nFirst, nSecond, nFlat, nStart, nLength, nSkipped, nodeAt, afterNodes}
-use Rattle.form.specs.Numbers.{afterNumbers, surplus}
-use Rattle.form.specs.Texts.{totalled, spanAt, tMap, tWidth, tLength, tEnd, afterTexts}
-use Rattle.form.specs.Form.{fNodes, fEdges, fChoices, fTexts, fEnd, formFault}
-use Rattle.rules.specs.Judged.{Judged, reference, text, space, circle, list, accepted}
+use Rattle.file_tables.specs.Tables.{Tables}
+use Rattle.file_fields.specs.declared.Step.{Step}
+use Rattle.file_fields.specs.Fields.{pick, got, refused, after, byteAt, wordAt, nonzero, fieldAt, numberAt, limited, countAt, formed}
+use Rattle.file_fields.specs.Header.{hMap, hNodes, hEdges, hTexts, hAnnotations, hChoices, hRoot, hSpace, headerAt}
+use Rattle.file_form.specs.Nodes.{checked, mapAt, kindAt, nMap, nKind, nFirst, nSecond, nFlat, nStart, nLength, nSkipped, nodeAt, afterNodes}
+use Rattle.file_form.specs.Numbers.{afterNumbers, surplus}
+use Rattle.file_form.specs.Texts.{totalled, spanAt, tMap, tWidth, tLength, tEnd, afterTexts}
+use Rattle.file_form.specs.Form.{fNodes, fEdges, fChoices, fTexts, fEnd, formFault}
+use Rattle.file_checks.specs.Judged.{Judged, reference, text, space, circle, list, accepted}
 use Rattle.prepare.specs.declared.read.Answer.the-variants.{Refused}
 use Rattle.prepare.specs.File.{Means, ill, wrong}
 

@@ -4,7 +4,7 @@ use mathlib.Core.List.{List}
 use Prim.Native.Nat.{ℕ, _≤_}
 use Rattle.layout.specs.Layout.{Plan, page, overflow-of, burden-of}
 use Rattle.layout.specs.Spans.{spans}
-use Rattle.layout.specs.Cheapest.{Answer as RuleAnswer}
+use Rattle.layout.specs.Cheapest.{FirstCheapest}
 use Rattle.machine.specs.Events.{Counts}
 use Rattle.machine.specs.Materializer.{Rendered}
 use Rattle.machine.specs.Answer.{Answer, paged, refused}
@@ -13,7 +13,7 @@ use Rattle.answer.specs.Answer.{Settings, rules-of, document-of}
 -- a page is that of a layout which the file's document allows, the first of its cheapest in choice order: no allowed layout has less overflow, nor as much and less burden
 pub record RulesPage (file : List ℕ) (c : Settings) (r : Rendered) : Type 0 where
   pub layout : Plan
-  pub rule : RuleAnswer (rules-of c) (document-of file .table) (document-of file .root) layout
+  pub rule : FirstCheapest (rules-of c) (document-of file .table) (document-of file .root) layout
   pub bytes-are : r .bytes ≡ page layout
   pub spans-are : r .spans ≡ spans layout
   pub overflow-is : r .cost .overflow ≡ overflow-of (rules-of c) layout

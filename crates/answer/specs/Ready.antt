@@ -12,29 +12,29 @@ use lib.ListN.{length, getD, take, drop, List·getD-eq-default}
 use lib.Seq.{getD-drop}
 use lib.Dec.{ltb}
 use borrow.Author.Tests.{ltb-true, lt-ltb, le-ltb}
-use Rattle.tables.specs.Tables.{Tables, kind, first, second, flat, choice-start, choice-length, skipped, node-row}
-use Rattle.form.specs.Kinds.{mapRight, pairRight}
-use Rattle.form.specs.declared.fill.Counts.{Counts}
-use Rattle.form.specs.Form.{formFault, tablesOf}
-use Rattle.encode.specs.Encode.{nodeMap}
-use Rattle.encode.specs.Faults.{nodeRight}
-use Rattle.encode.specs.Fields.{Bytes}
-use Rattle.encode.specs.Maps.{both-true}
-use Rattle.encode.specs.NodeTrip.{nodes-right-at}
-use Rattle.encode.specs.Trips.{encoded, tables-right}
-use Rattle.rules.specs.References.{of-group, of-nest, of-align, preferred, alternative, of-annotate, of-penalty, Ranged, seq, fill}
-use Rattle.rules.specs.Circle.{Refers, child, edge, flat-of-child}
-use Rattle.rules.specs.Descent.{Ranked as RowsRanked}
-use Rattle.rules.specs.Choice.{Replaced, here, later, Comes, as-it-is, step}
-use Rattle.rules.specs.Judged.{Judged, accepted, Accepted}
-use Rattle.rules.proofs.Rank.{accepted-closed, accepted-ranked}
+use Rattle.file_tables.specs.Tables.{Tables, kind, first, second, flat, choice-start, choice-length, skipped, node-row}
+use Rattle.file_form.specs.Kinds.{mapRight, pairRight}
+use Rattle.file_form.specs.declared.fill.Counts.{Counts}
+use Rattle.file_form.specs.Form.{formFault, tablesOf}
+use Rattle.file_encode.specs.Encode.{nodeMap}
+use Rattle.file_encode.specs.Faults.{nodeRight}
+use Rattle.file_encode.specs.Fields.{Bytes}
+use Rattle.file_encode.specs.Maps.{both-true}
+use Rattle.file_encode.specs.NodeTrip.{nodes-right-at}
+use Rattle.file_encode.specs.Trips.{encoded, tables-right}
+use Rattle.file_checks.specs.References.{of-group, of-nest, of-align, preferred, alternative, of-annotate, of-penalty, Ranged, seq, fill}
+use Rattle.file_checks.specs.Circle.{Refers, child, edge, flat-of-child}
+use Rattle.file_checks.specs.Descent.{Ranked as RowsRanked}
+use Rattle.file_checks.specs.Choice.{Replaced, here, later, Comes, as-it-is, step}
+use Rattle.file_checks.specs.Judged.{Judged, accepted, Accepted}
+use Rattle.file_checks.proofs.Rank.{accepted-closed, accepted-ranked}
 use Rattle.prepare.specs.declared.read.Answer.the-variants.{Accepted as AcceptedAs}
 use Rattle.prepare.specs.File.{Means, right}
 use Rattle.layout.specs.Table.{Node, Table, Choice}
 use Rattle.layout.specs.References.{flat-of, refers, RightList, two, more}
 use Rattle.machine.specs.Model.{ExactChoice}
-use Rattle.meaning.specs.Ready.{Ready}
-use Rattle.reading.specs.Reading.{edge-part, node-of-kind, node-of-row, choice-of-length, choice-of-row, prepared}
+use Rattle.machine_right.specs.Ready.{Ready}
+use Rattle.machine_input.specs.Reading.{edge-part, node-of-kind, node-of-row, choice-of-length, choice-of-row, prepared}
 
 -- every node is of one of document 01's kinds: what the form of a file ensures
 pub record Kinds (nodes : List (List ℕ)) : Type 0 where

@@ -1,12 +1,12 @@
 -- The order of costs as facts, and its laws.
 use mathlib.Core.Path.{_≡_, refl}
-use mathlib.Core.Logic.{_⊎_, inl, inr, ⊎-elim}
-use mathlib.Core.Bool.{Bool, true, false, not, _&&_, _||_}
-use Prim.Native.Nat.{ℕ, _≤_, _<_}
+use mathlib.Core.Logic.{_⊎_, ⊎-elim}
+use mathlib.Core.Bool.{Bool, true, false, _&&_, _||_}
+use Prim.Native.Nat.{_≤_, _<_}
 use native.Mathlib.Omega.{arith}
 use lib.Dec.{leb, ltb, eqb}
 use borrow.Author.Tests.{leb-true, leb-false, ltb-true, ltb-false, eqb-true, le-leb, eq-eqb}
-use Rattle.cost.specs.Cost.{Cost, add, cheap, cheaper}
+use Rattle.cost.specs.Cost.{Cost, add, cheap}
 use Rattle.cost.specs.Logic.{no-both, or-cases, and-left, and-right, and-both}
 
 -- as much overflow at most and, where exactly as much, as much burden at most

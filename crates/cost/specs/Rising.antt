@@ -1,6 +1,6 @@
 -- Any charge that is 0 up to the width and rises from there by steps that never shrink: smaller columns are never dearer.
-use mathlib.Core.Path.{_≡_, refl, sym, ap, _∙_}
-use Prim.Native.Nat.{ℕ, zero, suc, _+_, _-_, _*_, _≤_, _<_}
+use mathlib.Core.Path.{_≡_, ap}
+use Prim.Native.Nat.{ℕ, zero, suc, _+_, _-_, _*_, _≤_}
 use native.Mathlib.Nat.{add-suc, add-zero, mul-le-mul, mul-add, add-mul, mul-comm}
 use native.Mathlib.Omega.{arith}
 use Rattle.cost.specs.Charge.{over, squared}

@@ -1,7 +1,7 @@
-// The cost of a layout: overflow, then burden (from laidout's cost.rs; document 01, "Cost").
+// The cost of a layout, overflow and then burden: what text, newlines and penalties cost, sums that may have no place, the order (from laidout's cost.rs).
 ghost use mathlib.Core.Path.{_≡_};
-ghost use Prim.Native.Nat.{_+_, _-_, _*_, _^_, _≤_, _<_};
-ghost use Rattle.cost.specs.Cost.{zero-cost, add, cheap, cheaper};
+ghost use Prim.Native.Nat.{_+_, _-_, _*_, _^_, _<_};
+ghost use Rattle.cost.specs.Cost.{add, cheap, cheaper};
 ghost use Rattle.cost.specs.Charge.{over, squared, newline-cost, penalty-cost};
 ghost use Rattle.cost.specs.Value.{halves, value, halved, halved-within, within, text-outcome, outcome};
 
@@ -76,17 +76,12 @@ fn add_halves(high: u64, low: u64, other_high: u64, other_low: u64) -> Sum
 }
 
 impl ConsumerCost {
+    // The zero cost.
     pub const ZERO: ConsumerCost = ConsumerCost {
         overflow_high: 0,
         overflow_low: 0,
         burden: 0,
     };
-
-    pub fn zero() -> Self
-        ensures { λ r. ⌜ value r ≡ zero-cost ⌝ }
-    {
-        Self::ZERO
-    }
 
     // Text of a width that starts at a column.
     pub fn text(model: PreparedConsumerCostModel, column: u32, width: u32) -> Costed

@@ -1,8 +1,8 @@
 -- Document 01's rule to the letter (pruned by the one kept at the same column or by the nearest lower one; else the same column and the dearer higher ones go) is what `present` does.
-use mathlib.Core.Path.{_≡_, refl, sym, _∙_, ap, subst}
+use mathlib.Core.Path.{_≡_, sym, _∙_, subst}
 use mathlib.Core.Logic.{inl, inr}
-use mathlib.Core.Bool.{Bool, true, false, not, _&&_}
-use mathlib.Core.List.{List, [], _∷_, map}
+use mathlib.Core.Bool.{false, not}
+use mathlib.Core.List.{List, map}
 use mathlib.Core.List.{List·Memᴰ as Member, List·Memᴰ·head as here, List·Memᴰ·tail as there}
 use Prim.Native.Nat.{ℕ, _≤_}
 use native.Mathlib.Omega.{arith}
@@ -17,7 +17,7 @@ use Rattle.layout.specs.Letter.{presents-is}
 use Rattle.avl.specs.Members.{In}
 use Rattle.frontier.specs.declared.Builder.{Builder}
 use Rattle.frontier.specs.Candidates.{Pending, candidate-at, survivors}
-use Rattle.frontier.specs.Kept.{Kept, Sound, Frontier, After}
+use Rattle.frontier.specs.Kept.{Sound, Frontier, After}
 use Rattle.frontier.specs.Walk.{survive}
 
 member-in : {x : ℕ} {xs : List ℕ} → Member x xs → In x xs

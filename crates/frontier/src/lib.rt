@@ -1,10 +1,11 @@
-// The frontier of candidates that a builder keeps: a tree by last column, the order of presentation, and the slots that are free again
-// (laidout's FrontierSlot, begin_builder, present, finish_builder; document 01, "Candidate and frontier"). Fourteen words a slot.
+// The frontier of candidates in lent words, fourteen a slot: a tree by last column, the order of presentation, and the slots that are free again
+// (laidout's FrontierSlot; document 01, "Candidate and frontier"). Counts, sizes and plans are crate solve_builder's.
 mod order;
 
-use avl::Link;
+pub use avl::Link;
 use avl::Way;
 use avl::get;
+pub use avl::larger;
 use avl::store;
 use cost::ConsumerCost;
 ghost use mathlib.Core.Path.{_≡_};
@@ -82,13 +83,13 @@ pub fn begin_builder() -> Builder
 
 // ---- the words of a slot
 
-fn cost_of(f: &[u64], s: u64) -> ConsumerCost
-    requires { ⌜ At (now f) s ⌝ }
-    ensures { λ r. ⌜ value r ≡ cost-at (now (f .entry)) s ⌝ }
+fn cost_of(frontier: &[u64], s: u64) -> ConsumerCost
+    requires { ⌜ At (now frontier) s ⌝ }
+    ensures { λ r. ⌜ value r ≡ cost-at (now (frontier .entry)) s ⌝ }
 {
-    let overflow_high = get(f, s, OVERFLOW_HIGH);
-    let overflow_low = get(f, s, OVERFLOW_LOW);
-    let burden = get(f, s, BURDEN);
+    let overflow_high = get(frontier, s, OVERFLOW_HIGH);
+    let overflow_low = get(frontier, s, OVERFLOW_LOW);
+    let burden = get(frontier, s, BURDEN);
     ConsumerCost {
         overflow_high,
         overflow_low,
@@ -96,61 +97,61 @@ fn cost_of(f: &[u64], s: u64) -> ConsumerCost
     }
 }
 
-fn store_cost(f: &mut [u64], s: u64, cost: ConsumerCost)
-    requires { ⌜ At (now f) s ⌝ }
-    ensures { λ _. ⌜ now (f .exit) ≡ written-cost (now (f .entry)) s cost ⌝ }
+fn store_cost(frontier: &mut [u64], s: u64, cost: ConsumerCost)
+    requires { ⌜ At (now frontier) s ⌝ }
+    ensures { λ _. ⌜ now (frontier .exit) ≡ written-cost (now (frontier .entry)) s cost ⌝ }
 {
-    store(f, s, OVERFLOW_HIGH, cost.overflow_high);
-    store(f, s, OVERFLOW_LOW, cost.overflow_low);
-    store(f, s, BURDEN, cost.burden);
+    store(frontier, s, OVERFLOW_HIGH, cost.overflow_high);
+    store(frontier, s, OVERFLOW_LOW, cost.overflow_low);
+    store(frontier, s, BURDEN, cost.burden);
 }
 
-fn store_plan(f: &mut [u64], s: u64, precedence: u64, kind: u64, first: u64, second: u64)
-    requires { ⌜ At (now f) s ⌝ }
-    ensures { λ _. ⌜ now (f .exit) ≡ written-plan (now (f .entry)) s precedence kind first second ⌝ }
+fn store_plan(frontier: &mut [u64], s: u64, precedence: u64, kind: u64, first: u64, second: u64)
+    requires { ⌜ At (now frontier) s ⌝ }
+    ensures { λ _. ⌜ now (frontier .exit) ≡ written-plan (now (frontier .entry)) s precedence kind first second ⌝ }
 {
-    store(f, s, PRECEDENCE, precedence);
-    store(f, s, KIND, kind);
-    store(f, s, FIRST, first);
-    store(f, s, SECOND, second);
+    store(frontier, s, PRECEDENCE, precedence);
+    store(frontier, s, KIND, kind);
+    store(frontier, s, FIRST, first);
+    store(frontier, s, SECOND, second);
 }
 
 // Makes slot s the candidate, and a tree of its own.
-fn fill(f: &mut [u64], s: u64, candidate: ScratchCandidate)
-    requires { ⌜ At (now f) s ⌝ }
-    ensures { λ _. ⌜ Filled (now (f .entry)) (now (f .exit)) s (carried candidate) ⌝ }
+fn fill(frontier: &mut [u64], s: u64, candidate: ScratchCandidate)
+    requires { ⌜ At (now frontier) s ⌝ }
+    ensures { λ _. ⌜ Filled (now (frontier .entry)) (now (frontier .exit)) s (carried candidate) ⌝ }
 {
     let cost = candidate.cost;
-    store_cost(f, s, cost);
-    store(f, s, LAST, candidate.last as u64);
+    store_cost(frontier, s, cost);
+    store(frontier, s, LAST, candidate.last as u64);
     store_plan(
-        f,
+        frontier,
         s,
         candidate.precedence,
         candidate.kind,
         candidate.first,
         candidate.second,
     );
-    avl::clear(f, s);
+    avl::clear(frontier, s);
 }
 
 // ---- the tests of two costs
 
 // The candidate in slot s costs no more: it stays beside a candidate of the cost at its own column or a lower one.
-fn stays(f: &[u64], s: u64, cost: ConsumerCost) -> bool
-    requires { ⌜ At (now f) s ⌝ }
-    ensures { λ r. ⌜ r ≡ cheap (cost-at (now (f .entry)) s) (value cost) ⌝ }
+fn stays(frontier: &[u64], s: u64, cost: ConsumerCost) -> bool
+    requires { ⌜ At (now frontier) s ⌝ }
+    ensures { λ r. ⌜ r ≡ cheap (cost-at (now (frontier .entry)) s) (value cost) ⌝ }
 {
-    let kept = cost_of(f, s);
+    let kept = cost_of(frontier, s);
     kept.at_most(cost)
 }
 
 // The candidate in slot s costs strictly less: it prunes a candidate of the cost at a higher column.
-fn beats(f: &[u64], s: u64, cost: ConsumerCost) -> bool
-    requires { ⌜ At (now f) s ⌝ }
-    ensures { λ r. ⌜ r ≡ cheaper (cost-at (now (f .entry)) s) (value cost) ⌝ }
+fn beats(frontier: &[u64], s: u64, cost: ConsumerCost) -> bool
+    requires { ⌜ At (now frontier) s ⌝ }
+    ensures { λ r. ⌜ r ≡ cheaper (cost-at (now (frontier .entry)) s) (value cost) ⌝ }
 {
-    let kept = cost_of(f, s);
+    let kept = cost_of(frontier, s);
     kept.less(cost)
 }
 
@@ -158,30 +159,30 @@ fn beats(f: &[u64], s: u64, cost: ConsumerCost) -> bool
 
 // Whether a kept candidate prunes the presented one, by a search for its column. Where one is kept at its column no lower one need be asked:
 // none costs less than that.
-fn covered(f: &[u64], way: Way, candidate: ScratchCandidate) -> bool
-    requires { ⌜ Looked (now f) (candidate .last) way ⌝ }
-    ensures { λ r. ⌜ ((p : Looked (now (f .entry)) (candidate .last) way) → r ≡ any (prunes (now (f .entry)) (carried candidate)) (p .sound .kept .order)) ⌝ }
+fn covered(frontier: &[u64], way: Way, candidate: ScratchCandidate) -> bool
+    requires { ⌜ Looked (now frontier) (candidate .last) way ⌝ }
+    ensures { λ r. ⌜ ((p : Looked (now (frontier .entry)) (candidate .last) way) → r ≡ any (prunes (now (frontier .entry)) (carried candidate)) (p .sound .kept .order)) ⌝ }
 {
     let cost = candidate.cost;
     if way.same != NIL {
-        return stays(f, way.same, cost);
+        return stays(frontier, way.same, cost);
     }
     if way.before != NIL {
-        return beats(f, way.before, cost);
+        return beats(frontier, way.before, cost);
     }
     false
 }
 
 // Whether there is no slot s, or its candidate costs no more. Where s has the least column from a candidate's own on, this holds of all from
 // there on: none costs more than that.
-fn none_dearer(f: &[u64], s: u64, cost: ConsumerCost) -> bool
-    requires { ⌜ (s ≢ nil → At (now f) s) ⌝ }
-    ensures { λ r. ⌜ r ≡ none-dearer (now (f .entry)) s (value cost) ⌝ }
+fn none_dearer(frontier: &[u64], s: u64, cost: ConsumerCost) -> bool
+    requires { ⌜ (s ≢ nil → At (now frontier) s) ⌝ }
+    ensures { λ r. ⌜ r ≡ none-dearer (now (frontier .entry)) s (value cost) ⌝ }
 {
     if s == NIL {
         return true;
     }
-    stays(f, s, cost)
+    stays(frontier, s, cost)
 }
 
 // One of those that are kept prunes it; it comes beside them all; or it removes some.
@@ -192,16 +193,16 @@ enum Effect {
 }
 
 // One search for the candidate's column tells all.
-fn weigh(f: &[u64], b: Builder, candidate: ScratchCandidate) -> Effect
-    requires { ⌜ Sound (now f) b ⌝ }
-    ensures { λ r. ⌜ ((p : Sound (now (f .entry)) b) → Effects (now (f .entry)) (carried candidate) (p .kept .order) r) ⌝ }
+fn weigh(frontier: &[u64], b: Builder, candidate: ScratchCandidate) -> Effect
+    requires { ⌜ Sound (now frontier) b ⌝ }
+    ensures { λ r. ⌜ ((p : Sound (now (frontier .entry)) b) → Effects (now (frontier .entry)) (carried candidate) (p .kept .order) r) ⌝ }
 {
     let cost = candidate.cost;
-    let way = avl::search(f, b.root, candidate.last as u64);
-    if covered(f, way, candidate) {
+    let way = avl::search(frontier, b.root, candidate.last as u64);
+    if covered(frontier, way, candidate) {
         return Effect::Pruned;
     }
-    if none_dearer(f, way.from, cost) {
+    if none_dearer(frontier, way.from, cost) {
         return Effect::Beside;
     }
     Effect::Removing
@@ -210,22 +211,22 @@ fn weigh(f: &[u64], b: Builder, candidate: ScratchCandidate) -> Effect
 // ---- candidates out and in
 
 // Takes the candidate of the column out, and keeps its slot as a free one.
-fn discard(f: &mut [u64], b: Builder, column: u64) -> Builder
-    requires { ⌜ Drop (now f) b column ⌝ }
-    ensures { λ r. ⌜ ((p : Drop (now (f .entry)) b column) → Dropped (now (f .entry)) (now (f .exit)) b r column (p .kept .t) (p .kept .order)) ⌝ }
+fn discard(frontier: &mut [u64], b: Builder, column: u64) -> Builder
+    requires { ⌜ Drop (now frontier) b column ⌝ }
+    ensures { λ r. ⌜ ((p : Drop (now (frontier .entry)) b column) → Dropped (now (frontier .entry)) (now (frontier .exit)) b r column (p .kept .t) (p .kept .order)) ⌝ }
 {
-    let d = avl::remove(f, b.root, column);
+    let d = avl::remove(frontier, b.root, column);
     let root = d.root;
     let s = d.slot;
     let ends = order::unlink_precedence(
-        f,
+        frontier,
         s,
         order::Ends {
             head: b.head,
             tail: b.tail,
         },
     );
-    store(f, s, FREE_NEXT, b.free);
+    store(frontier, s, FREE_NEXT, b.free);
     let live = b.live - 1;
     Builder {
         root,
@@ -238,21 +239,21 @@ fn discard(f: &mut [u64], b: Builder, column: u64) -> Builder
 }
 
 // Takes out those that the candidate removes: from its column on upwards, as long as they cost more.
-fn prune(f: &mut [u64], builder: Builder, candidate: ScratchCandidate) -> Builder
-    requires { ⌜ Fresh (now f) builder (carried candidate) ⌝ }
-    ensures { λ r. ⌜ ((p : Fresh (now (f .entry)) builder (carried candidate)) → Sifted (now (f .entry)) (now (f .exit)) builder r (carried candidate) (p .sound .kept .order)) ⌝ }
+fn prune(frontier: &mut [u64], builder: Builder, candidate: ScratchCandidate) -> Builder
+    requires { ⌜ Fresh (now frontier) builder (carried candidate) ⌝ }
+    ensures { λ r. ⌜ ((p : Fresh (now (frontier .entry)) builder (carried candidate)) → Sifted (now (frontier .entry)) (now (frontier .exit)) builder r (carried candidate) (p .sound .kept .order)) ⌝ }
 {
     let cost = candidate.cost;
     let last = candidate.last as u64;
     let mut b = builder;
     loop {
-        let way = avl::search(f, b.root, last);
+        let way = avl::search(frontier, b.root, last);
         let s = way.from;
-        if none_dearer(f, s, cost) {
+        if none_dearer(frontier, s, cost) {
             return b;
         }
-        let column = get(f, s, LAST);
-        b = discard(f, b, column);
+        let column = get(frontier, s, LAST);
+        b = discard(frontier, b, column);
     }
 }
 
@@ -264,9 +265,9 @@ struct Slot {
 }
 
 // The last slot that became free, or the first that was not used yet.
-fn take(f: &[u64], b: Builder) -> Slot
-    requires { ⌜ Roomy (now f) b ⌝ }
-    ensures { λ r. ⌜ ((p : Roomy (now (f .entry)) b) → Taken (now (f .entry)) (p .size) (p .kept .order) (r .slot) (r .free) (r .used)) ⌝ }
+fn take(frontier: &[u64], b: Builder) -> Slot
+    requires { ⌜ Roomy (now frontier) b ⌝ }
+    ensures { λ r. ⌜ ((p : Roomy (now (frontier .entry)) b) → Taken (now (frontier .entry)) (p .size) (p .kept .order) (r .slot) (r .free) (r .used)) ⌝ }
 {
     if b.free == NIL {
         let used = b.used + 1;
@@ -276,7 +277,7 @@ fn take(f: &[u64], b: Builder) -> Slot
             used,
         };
     }
-    let free = get(f, b.free, FREE_NEXT);
+    let free = get(frontier, b.free, FREE_NEXT);
     Slot {
         slot: b.free,
         free,
@@ -285,22 +286,22 @@ fn take(f: &[u64], b: Builder) -> Slot
 }
 
 // Puts a candidate of a new column in, last in the order.
-fn admit(f: &mut [u64], b: Builder, candidate: ScratchCandidate) -> Builder
-    requires { ⌜ Admit (now f) b (candidate .last) ⌝ }
-    ensures { λ r. ⌜ ((p : Admit (now (f .entry)) b (candidate .last)) → Admitted (now (f .entry)) (now (f .exit)) (p .roomy .size) b r (carried candidate) (p .roomy .kept .order)) ⌝ }
+fn admit(frontier: &mut [u64], b: Builder, candidate: ScratchCandidate) -> Builder
+    requires { ⌜ Admit (now frontier) b (candidate .last) ⌝ }
+    ensures { λ r. ⌜ ((p : Admit (now (frontier .entry)) b (candidate .last)) → Admitted (now (frontier .entry)) (now (frontier .exit)) (p .roomy .size) b r (carried candidate) (p .roomy .kept .order)) ⌝ }
 {
-    let place = take(f, b);
+    let place = take(frontier, b);
     let s = place.slot;
-    fill(f, s, candidate);
+    fill(frontier, s, candidate);
     let ends = order::append_precedence(
-        f,
+        frontier,
         s,
         order::Ends {
             head: b.head,
             tail: b.tail,
         },
     );
-    let root = avl::insert(f, b.root, s);
+    let root = avl::insert(frontier, b.root, s);
     let live = b.live + 1;
     Builder {
         root,
@@ -313,24 +314,29 @@ fn admit(f: &mut [u64], b: Builder, candidate: ScratchCandidate) -> Builder
 }
 
 // Presents a candidate to a frontier of at most `size` candidates. Where it removes some there is room for it.
-pub fn present(f: &mut [u64], size: u64, b: Builder, candidate: ScratchCandidate) -> Presented
-    requires { ⌜ Frontier (now f) size b ⌝ }
-    ensures { λ r. ⌜ Presents (now (f .entry)) (now (f .exit)) size b (carried candidate) r ⌝ }
+pub fn present(
+    frontier: &mut [u64],
+    size: u64,
+    b: Builder,
+    candidate: ScratchCandidate,
+) -> Presented
+    requires { ⌜ Frontier (now frontier) size b ⌝ }
+    ensures { λ r. ⌜ Presents (now (frontier .entry)) (now (frontier .exit)) size b (carried candidate) r ⌝ }
 {
-    match weigh(f, b, candidate) {
+    match weigh(frontier, b, candidate) {
         Effect::Pruned => Presented::Done(b, 1),
         Effect::Beside => {
             if size <= b.live {
                 let needed = b.live + 1;
                 return Presented::Exhausted(needed);
             }
-            let after = admit(f, b, candidate);
+            let after = admit(frontier, b, candidate);
             Presented::Done(after, 0)
         }
         Effect::Removing => {
-            let left = prune(f, b, candidate);
+            let left = prune(frontier, b, candidate);
             let removed = b.live - left.live;
-            let after = admit(f, left, candidate);
+            let after = admit(frontier, left, candidate);
             Presented::Done(after, removed)
         }
     }
@@ -346,11 +352,11 @@ pub fn first(b: Builder) -> Link
 }
 
 // The slot of the survivor that was presented next after the one in slot s.
-pub fn following(f: &[u64], s: u64) -> Link
-    requires { ⌜ Stands (now f) s ⌝ }
-    ensures { λ r. ⌜ r ≡ link-of (next (now (f .entry)) s) ⌝ }
+pub fn following(frontier: &[u64], s: u64) -> Link
+    requires { ⌜ Stands (now frontier) s ⌝ }
+    ensures { λ r. ⌜ r ≡ link-of (next (now (frontier .entry)) s) ⌝ }
 {
-    let n = get(f, s, NEXT);
+    let n = get(frontier, s, NEXT);
     avl::linked(n)
 }
 
@@ -361,13 +367,13 @@ struct Words {
     second: u64,
 }
 
-fn plan_of(f: &[u64], s: u64) -> Words
-    requires { ⌜ Stands (now f) s ⌝ }
-    ensures { λ r. ⌜ (r .kind ≡ word (now (f .entry)) s 5) × ((r .first ≡ word (now (f .entry)) s 6) × (r .second ≡ word (now (f .entry)) s 7)) ⌝ }
+fn plan_of(frontier: &[u64], s: u64) -> Words
+    requires { ⌜ Stands (now frontier) s ⌝ }
+    ensures { λ r. ⌜ (r .kind ≡ word (now (frontier .entry)) s 5) × ((r .first ≡ word (now (frontier .entry)) s 6) × (r .second ≡ word (now (frontier .entry)) s 7)) ⌝ }
 {
-    let kind = get(f, s, KIND);
-    let first = get(f, s, FIRST);
-    let second = get(f, s, SECOND);
+    let kind = get(frontier, s, KIND);
+    let first = get(frontier, s, FIRST);
+    let second = get(frontier, s, SECOND);
     Words {
         kind,
         first,
@@ -376,15 +382,15 @@ fn plan_of(f: &[u64], s: u64) -> Words
 }
 
 // The candidate in slot s.
-pub fn candidate(f: &[u64], s: u64) -> ScratchCandidate
-    requires { ⌜ Stands (now f) s ⌝ }
-    ensures { λ r. ⌜ carried r ≡ candidate-at (now (f .entry)) s ⌝ }
+pub fn candidate(frontier: &[u64], s: u64) -> ScratchCandidate
+    requires { ⌜ Stands (now frontier) s ⌝ }
+    ensures { λ r. ⌜ carried r ≡ candidate-at (now (frontier .entry)) s ⌝ }
 {
-    let cost = cost_of(f, s);
-    let column = get(f, s, LAST);
+    let cost = cost_of(frontier, s);
+    let column = get(frontier, s, LAST);
     let last = column as u32;
-    let precedence = get(f, s, PRECEDENCE);
-    let words = plan_of(f, s);
+    let precedence = get(frontier, s, PRECEDENCE);
+    let words = plan_of(frontier, s);
     ScratchCandidate {
         cost,
         last,

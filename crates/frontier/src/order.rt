@@ -20,49 +20,49 @@ pub struct Ends {
 }
 
 // Makes n the slot after p, or the head. Returns the head.
-fn set_next(f: &mut [u64], p: u64, n: u64, head: u64) -> u64
-    requires { ⌜ (p ≢ nil → At (now f) p) ⌝ }
-    ensures { λ r. ⌜ Forward (now (f .entry)) (now (f .exit)) p n head r ⌝ }
+fn set_next(frontier: &mut [u64], p: u64, n: u64, head: u64) -> u64
+    requires { ⌜ (p ≢ nil → At (now frontier) p) ⌝ }
+    ensures { λ r. ⌜ Forward (now (frontier .entry)) (now (frontier .exit)) p n head r ⌝ }
 {
     if p == NIL {
         return n;
     }
-    store(f, p, NEXT, n);
+    store(frontier, p, NEXT, n);
     head
 }
 
 // Makes p the slot before n, or the tail. Returns the tail.
-fn set_previous(f: &mut [u64], n: u64, p: u64, tail: u64) -> u64
-    requires { ⌜ (n ≢ nil → At (now f) n) ⌝ }
-    ensures { λ r. ⌜ Back (now (f .entry)) (now (f .exit)) n p tail r ⌝ }
+fn set_previous(frontier: &mut [u64], n: u64, p: u64, tail: u64) -> u64
+    requires { ⌜ (n ≢ nil → At (now frontier) n) ⌝ }
+    ensures { λ r. ⌜ Back (now (frontier .entry)) (now (frontier .exit)) n p tail r ⌝ }
 {
     if n == NIL {
         return p;
     }
-    store(f, n, PREVIOUS, p);
+    store(frontier, n, PREVIOUS, p);
     tail
 }
 
 // Takes slot s out of the order.
-pub fn unlink_precedence(f: &mut [u64], s: u64, ends: Ends) -> Ends
-    requires { ⌜ Within (now f) s (ends .head) (ends .tail) ⌝ }
-    ensures { λ r. ⌜ ((p : Within (now (f .entry)) s (ends .head) (ends .tail)) → Chained (now (f .entry)) (now (f .exit)) (r .head) (r .tail) (p .ys ++ p .zs)) ⌝ }
+pub fn unlink_precedence(frontier: &mut [u64], s: u64, ends: Ends) -> Ends
+    requires { ⌜ Within (now frontier) s (ends .head) (ends .tail) ⌝ }
+    ensures { λ r. ⌜ ((p : Within (now (frontier .entry)) s (ends .head) (ends .tail)) → Chained (now (frontier .entry)) (now (frontier .exit)) (r .head) (r .tail) (p .ys ++ p .zs)) ⌝ }
 {
-    let p = get(f, s, PREVIOUS);
-    let n = get(f, s, NEXT);
-    let head = set_next(f, p, n, ends.head);
-    let tail = set_previous(f, n, p, ends.tail);
+    let p = get(frontier, s, PREVIOUS);
+    let n = get(frontier, s, NEXT);
+    let head = set_next(frontier, p, n, ends.head);
+    let tail = set_previous(frontier, n, p, ends.tail);
     Ends { head, tail }
 }
 
 // Puts slot s at the end of the order.
-pub fn append_precedence(f: &mut [u64], s: u64, ends: Ends) -> Ends
-    requires { ⌜ Without (now f) s (ends .head) (ends .tail) ⌝ }
-    ensures { λ r. ⌜ ((p : Without (now (f .entry)) s (ends .head) (ends .tail)) → Chained (now (f .entry)) (now (f .exit)) (r .head) (r .tail) (p .xs ++ s ∷ [])) ⌝ }
+pub fn append_precedence(frontier: &mut [u64], s: u64, ends: Ends) -> Ends
+    requires { ⌜ Without (now frontier) s (ends .head) (ends .tail) ⌝ }
+    ensures { λ r. ⌜ ((p : Without (now (frontier .entry)) s (ends .head) (ends .tail)) → Chained (now (frontier .entry)) (now (frontier .exit)) (r .head) (r .tail) (p .xs ++ s ∷ [])) ⌝ }
 {
     let p = ends.tail;
-    store(f, s, PREVIOUS, p);
-    store(f, s, NEXT, NIL);
-    let head = set_next(f, p, s, ends.head);
+    store(frontier, s, PREVIOUS, p);
+    store(frontier, s, NEXT, NIL);
+    let head = set_next(frontier, p, s, ends.head);
     Ends { head, tail: s }
 }

@@ -3,9 +3,9 @@ use mathlib.Core.Path.{_≡_, subst}
 use mathlib.Core.List.{List}
 use Prim.Native.Nat.{ℕ}
 use lib.ListN.{getD}
-use Rattle.form.specs.declared.fill.Counts.{Counts}
-use Rattle.workspace.specs.declared.Bounds.{Bounds}
-use Rattle.workspace.specs.declared.RenderOptions.{RenderOptions}
+use Rattle.file_form.specs.declared.fill.Counts.{Counts}
+use Rattle.solve_workspace.specs.declared.Bounds.{Bounds}
+use Rattle.solve_workspace.specs.declared.RenderOptions.{RenderOptions}
 use Rattle.materialize.specs.Rows.{Row}
 use Rattle.prepare.specs.declared.write.Outcome.{Outcome}
 use Rattle.prepare.specs.Writing.{Writes, lentTables, LentAt}

@@ -4,23 +4,23 @@ use mathlib.Core.List.{List, [], _∷_}
 use Prim.Native.Nat.{ℕ, _≤_}
 use lib.ListN.{getD}
 use Rattle.stats.specs.declared.SolveStats.{SolveStats}
-use Rattle.workspace.specs.declared.Bounds.{Bounds}
-use Rattle.workspace.specs.declared.RenderOptions.{RenderOptions}
-use Rattle.form.specs.declared.fill.Counts.{Counts}
+use Rattle.solve_workspace.specs.declared.Bounds.{Bounds}
+use Rattle.solve_workspace.specs.declared.RenderOptions.{RenderOptions}
+use Rattle.file_form.specs.declared.fill.Counts.{Counts}
 use Rattle.prepare.specs.declared.read.Answer.{Answer}
 use Rattle.prepare.specs.declared.read.Answer.the-variants.{Accepted, Refused as Ill}
 use Rattle.prepare.specs.declared.write.Outcome.{Outcome}
 use Rattle.prepare.specs.declared.write.Outcome.the-variants.{Written, Refused as Unwritten}
 use Rattle.prepare.specs.File.{Reads}
 use Rattle.prepare.specs.Writing.{Writes}
-use Rattle.tables.specs.Tables.{Tables}
+use Rattle.file_tables.specs.Tables.{Tables}
 use Rattle.materialize.specs.Rows.{Row}
 use Rattle.render.specs.declared.page.Rendered.{Rendered}
 use Rattle.render.specs.declared.page.Rendered.the-variants.{Page, Refused}
 use Rattle.render.specs.declared.order.Lengths.{Lengths}
 use Rattle.machine.specs.Answer.{refused}
 use Rattle.answer.specs.Page.{Promised, right-refusal}
-use Rattle.workspace.specs.Meets.{tally}
+use Rattle.solve_workspace.specs.Meets.{tally}
 use Rattle.render.specs.Rendered.{meant}
 use Rattle.render.specs.Call.{Rendering, settings}
 

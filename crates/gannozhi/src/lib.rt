@@ -1,21 +1,21 @@
 // The library for C and Rust: a call, a file read and a file written, with answers in words. None has a `requires`.
 ghost use mathlib.Core.Path.{_≡_};
 ghost use lib.ListN.{length, getD};
-ghost use Rattle.prepare.specs.File.{Lent};
+ghost use Rattle.prepare.specs.File.{TablesLent};
 ghost use Rattle.prepare.specs.Writing.{lentTables, LentAt};
 ghost use Rattle.render.specs.Call.{lengths};
 ghost use Rattle.gannozhi.specs.Words.{words, options, bounds, Answered, read-number, read-words, Read, counts, write-number, write-size, Wrote};
-use form::fill::Counts;
+use file_form::fill::Counts;
+use file_tables::NodeId;
+use file_tables::TextId;
 use prepare::read::Answer;
 use prepare::read::read;
 use prepare::write::Outcome;
 use prepare::write::write;
 use render::call::render_core;
 use render::page::Rendered;
-use tables::NodeId;
-use tables::TextId;
-use workspace::Bounds;
-use workspace::RenderOptions;
+use solve_workspace::Bounds;
+use solve_workspace::RenderOptions;
 
 fn answer_words(r: Rendered) -> [u64; 17]
     ensures { λ w. ⌜ w ≡ words r ⌝ }
@@ -125,18 +125,18 @@ pub extern "C" fn gannozhi_render(
     tasks: &mut [[u32; 9]],
     results: &mut [[u32; 2]],
     pending: &mut [[u64; 7]],
-    slots: &mut [u64],
+    index: &mut [u64],
     entries: &mut [[u64; 6]],
     kept: &mut [[u64; 6]],
     frontier: &mut [u64],
     plans: &mut [[u32; 3]],
-    stack: &mut [usize],
-    held: &mut [usize],
+    visit: &mut [usize],
+    depth: &mut [usize],
     output: &mut [u8],
-    rows: &mut [[u64; 4]],
+    spans: &mut [[u64; 4]],
     answer: &mut [u64; 17],
 ) -> u32
-    ensures { λ r. ⌜ Answered (now (file .entry)) (options width «newline_cost» policy) (bounds (now (sizes .entry)) «work_limit» «visit_limit») (lengths (now (nodes .entry)) (now (edges .entry)) (now (choices .entry)) (now (texts .entry)) (now (bytes .entry)) (now (tasks .entry)) (now (results .entry)) (now (pending .entry)) (now (slots .entry)) (now (entries .entry)) (now (kept .entry)) (now (frontier .entry)) (now (plans .entry)) (now (stack .entry)) (now (held .entry)) (now (output .entry)) (now (rows .entry))) (now (output .entry)) (now (output .exit)) (now (rows .entry)) (now (rows .exit)) (now (answer .exit)) r ⌝ }
+    ensures { λ r. ⌜ Answered (now (file .entry)) (options width «newline_cost» policy) (bounds (now (sizes .entry)) «work_limit» «visit_limit») (lengths (now (nodes .entry)) (now (edges .entry)) (now (choices .entry)) (now (texts .entry)) (now (bytes .entry)) (now (tasks .entry)) (now (results .entry)) (now (pending .entry)) (now (index .entry)) (now (entries .entry)) (now (kept .entry)) (now (frontier .entry)) (now (plans .entry)) (now (visit .entry)) (now (depth .entry)) (now (output .entry)) (now (spans .entry))) (now (output .entry)) (now (output .exit)) (now (spans .entry)) (now (spans .exit)) (now (answer .exit)) r ⌝ }
 {
     let o = RenderOptions {
         width: width,
@@ -156,15 +156,15 @@ pub extern "C" fn gannozhi_render(
         tasks,
         results,
         pending,
-        slots,
+        index,
         entries,
         kept,
         frontier,
         plans,
-        stack,
-        held,
+        visit,
+        depth,
         output,
-        rows,
+        spans,
     );
     *answer = answer_words(r);
     answer_number(r)
@@ -210,7 +210,7 @@ pub extern "C" fn gannozhi_read(
     bytes: &mut [u8],
     counts: &mut [u32; 8],
 ) -> u32
-    ensures { λ r. ⌜ Read (now (file .entry)) (Lent (length (now (nodes .entry))) (length (now (edges .entry))) (length (now (choices .entry))) (length (now (texts .entry))) (length (now (bytes .entry)))) (now (nodes .exit)) (now (edges .exit)) (now (choices .exit)) (now (texts .exit)) (now (bytes .exit)) (now (counts .entry)) (now (counts .exit)) r ⌝ }
+    ensures { λ r. ⌜ Read (now (file .entry)) (TablesLent (length (now (nodes .entry))) (length (now (edges .entry))) (length (now (choices .entry))) (length (now (texts .entry))) (length (now (bytes .entry)))) (now (nodes .exit)) (now (edges .exit)) (now (choices .exit)) (now (texts .exit)) (now (bytes .exit)) (now (counts .entry)) (now (counts .exit)) r ⌝ }
 {
     let a = read(file, nodes, edges, choices, texts, bytes);
     *counts = read_words(a, *counts);

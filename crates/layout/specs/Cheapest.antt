@@ -1,4 +1,4 @@
--- What an answer is: of a document, and of a node table.
+-- What is cheapest: a layout of a document, and the one of a node table that is the rule's.
 use mathlib.Core.Path.{_≡_}
 use mathlib.Core.Option.{some}
 use Prim.Native.Nat.{ℕ, _≤_}
@@ -15,7 +15,7 @@ pub record Cheapest (R : Rules) (d : Doc) (p : Plan) : Type 0 where
   pub least-burden : (q : Plan) → Allows R d 0 0 q → overflow-of R p ≡ overflow-of R q → burden-of R p ≤ burden-of R q
 
 -- p is the first of the cheapest layouts of the root's document in choice order
-pub record Answer (R : Rules) (T : Table) (root : ℕ) (p : Plan) : Type 0 where
+pub record FirstCheapest (R : Rules) (T : Table) (root : ℕ) (p : Plan) : Type 0 where
   pub document : ℕ → Doc
   pub reads : Reads T document
   pub first : chosen R (document root) ≡ some p

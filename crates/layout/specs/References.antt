@@ -1,5 +1,5 @@
 -- Document 01, "Prepared file": what a node refers to, that no node leads back to itself, and which choice lists are right.
--- Crate rules says the same of the rows of a file's tables; crate answer, Ready, takes the one to the other.
+-- Crate file_checks says the same of the rows of a file's tables; crate answer, Ready, takes the one to the other.
 use mathlib.Core.Path.{_≡_}
 use mathlib.Core.Option.{Option, none, some}
 use mathlib.Core.List.{List, [], _∷_, _++_}

@@ -1,1 +1,1 @@
-// The rule and its theory: definitions and theorems only, in specs/.
+// The rule: documents, layouts, page, spans, cost, the choice, and their theory: definitions and theorems only, in specs/.

@@ -61,7 +61,7 @@ materialize p = do
   need visit 1
   visit-plan p 0 0 0 0
 
--- the cost that the Rust counts again on this walk, from column c on, after a. It comes to the layout's cost (crate meaning, Materialized), so that CostWitnessMismatch never arises and nothing has to be counted
+-- the cost that the Rust counts again on this walk, from column c on, after a. It comes to the layout's cost (crate machine_right, Materialized), so that CostWitnessMismatch never arises and nothing has to be counted
 unfoldable pub recount : Rules → Plan → ℕ → Cost → Cost
 recount R blank c a = a
 recount R (put t) c a = add a (text-cost (R .charge) c (t .width))

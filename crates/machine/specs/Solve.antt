@@ -75,7 +75,7 @@ module _ (R : Rules) (P : Prepared) where
     S₁ ← step R P S
     work-off-all (evaluated f) (length (S₁ .tasks) + 1 - length (S .tasks)) S₁
 
-  -- all tasks: where there is one, its step and then the rest (crate meaning, Rest)
+  -- all tasks: where there is one, its step and then the rest (crate machine_right, Rest)
   unfoldable pub rest : State → Prog State
   rest S = work-off-all (evaluated (P .depth)) (length (S .tasks)) S
 

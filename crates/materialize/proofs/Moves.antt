@@ -7,7 +7,7 @@ use native.Mathlib.Omega.{arith}
 use native.Mathlib.Nat.{add-zero}
 use lib.ListN.{length, length-append, length-replicate, length-map, set, take, drop, replicate}
 use lib.Seq.{set-append-seam, getD-append-seam}
-use Rattle.tables.specs.declared.AnnotationId.{AnnotationId}
+use Rattle.file_tables.specs.declared.AnnotationId.{AnnotationId}
 use Rattle.layout.specs.Document.{Word}
 use Rattle.layout.specs.Layout.{Plan, blank, put, line, join, mark, fee, page}
 use Rattle.layout.specs.Spans.{Span, spans-from}

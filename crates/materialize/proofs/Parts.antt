@@ -15,7 +15,7 @@ use Rattle.materialize.specs.declared.Act.{Act}
 use Rattle.materialize.specs.declared.Act.the-variants.{Pass, Put, Line, Open, Close}
 use Rattle.materialize.specs.Rows.{Row, parent-word, Fits}
 use Rattle.materialize.specs.Walks.{pile, innermost, close-last, tail, opened, rows, Room}
-use Rattle.materialize.specs.Writes.{wrote, Under, held-after, spans-after, ActFits}
+use Rattle.materialize.specs.Writes.{wrote, Under, depth-after, spans-after, ActFits}
 use Rattle.materialize.proofs.Turns.{pile-one}
 
 -- what a part of a slice, lent and written, leaves in the whole
@@ -59,7 +59,7 @@ under-more n m [] l h = tt
 under-more n m (x ∷ o) l h = (omega (arith, h .0), under-more n m o l (h .1))
 
 module _ (w z : Walk) (o : List ℕ) (s : List Row) (bytes : List ℕ) where
-  pub open-is : (a : Act) → Room a (length bytes) w z → w .depth ≤ length o → z .depth ≤ length o → pile (held-after a w o) (z .depth) ≡ opened a (w .spans) (pile o (w .depth))
+  pub open-is : (a : Act) → Room a (length bytes) w z → w .depth ≤ length o → z .depth ≤ length o → pile (depth-after a w o) (z .depth) ≡ opened a (w .spans) (pile o (w .depth))
   open-is Pass r l m = ap (pile o) (r .1)
   open-is (Put t n) r l m = ap (pile o) (r .1)
   open-is (Line i) r l m = ap (pile o) (r .1)

@@ -7,7 +7,7 @@ use native.Mathlib.Numerals.{add-one}
 use lib.ListN.{length, length-append, set, replicate, length-replicate}
 use lib.Seq.{getD-set-same}
 use mathlib.Core.Option.{none}
-use Rattle.tables.specs.Tables.{byte-length, byte-start}
+use Rattle.file_tables.specs.Tables.{byte-length, byte-start}
 use Rattle.layout.specs.Layout.{Plan, page}
 use Rattle.layout.specs.Spans.{spans}
 use Rattle.machine.specs.Events.{Bounds, Counts, no-counts, visit, Need, ret, emit, _>>_, run}

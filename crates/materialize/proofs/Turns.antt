@@ -9,9 +9,9 @@ use lib.Dec.{leb}
 use borrow.Author.Tests.{leb-true, leb-false}
 use lib.ListN.{length, length-drop, getD, set, take, drop, length-set, length-map}
 use lib.Seq.{getD-set-same, getD-set-other, length-take-le}
-use Rattle.tables.specs.declared.TextId.{TextId}
-use Rattle.tables.specs.declared.AnnotationId.{AnnotationId}
-use Rattle.tables.specs.Tables.{byte-length, byte-start}
+use Rattle.file_tables.specs.declared.TextId.{TextId}
+use Rattle.file_tables.specs.declared.AnnotationId.{AnnotationId}
+use Rattle.file_tables.specs.Tables.{byte-length, byte-start}
 use Rattle.layout.specs.Layout.{Plan, blank, put, line, join, mark, fee}
 use Rattle.plan.specs.declared.PlanId.{PlanId}
 use Rattle.plan.specs.declared.PlanNode.{PlanNode}
@@ -250,7 +250,7 @@ module _ (c : Capacity) (o : Around) (P X : List Row) (bytes e : List ℕ) (w : 
             let h : t + 2 ≤ c .visit = leb-true _ _ b in
             let f = fine-at p (Concat l r) q in
             let n : length (under g e t) + 2 ≤ c .visit = rw (under-length g e t) h in
-            rw (two (l .0 + 1) (r .0 + 1) (omega (arith, p .standing .stack-lent)), add-one (l .0), add-one (r .0))
+            rw (two (l .0 + 1) (r .0 + 1) (omega (arith, p .standing .visit-lent)), add-one (l .0), add-one (r .0))
             (went (Concat l r) q (suc (l .0) ∷ suc (r .0) ∷ pile e t) (step w (t + 2)) Pass (moves-join c o bytes (under g e t) w (p .left) (g (l .0)) (g (r .0)) (t + 2) n)
             (record {
               top-le = h;
@@ -291,7 +291,7 @@ module _ (c : Capacity) (o : Around) (P X : List Row) (bytes e : List ℕ) (w : 
           let f = fine-at p (Annotate k x) q in
           let n : length (under g e t) + 2 ≤ c .visit = rw (under-length g e t) h in
           let y : w .depth ≡ exits (pile e t) = depth-top p in
-          rw (two (x .0 + 1) 0 (omega (arith, p .standing .stack-lent)), add-one (x .0))
+          rw (two (x .0 + 1) 0 (omega (arith, p .standing .visit-lent)), add-one (x .0))
           (went (Annotate k x) q (suc (x .0) ∷ 0 ∷ pile e t) _ (Open k) (moves-mark c o bytes (under g e t) w (p .left) k (g (x .0)) (t + 2) n s d)
           (record {
             top-le = h;
@@ -326,7 +326,7 @@ module _ (c : Capacity) (o : Around) (P X : List Row) (bytes e : List ℕ) (w : 
     penalty-turned a x q =
         let f = fine-at p (Penalty a x) q in
         let n : length (under g e t) + 1 ≤ c .visit = rw (under-length g e t) room in
-        rw (pile-one e t (x .0 + 1) (omega (arith, room, p .standing .stack-lent)), add-one (x .0))
+        rw (pile-one e t (x .0 + 1) (omega (arith, room, p .standing .visit-lent)), add-one (x .0))
         (went (Penalty a x) q (suc (x .0) ∷ pile e t) (step w (t + 1)) Pass (moves-fee c o bytes (under g e t) w (p .left) a (g (x .0)) (t + 1) n)
         (record {
           top-le = room;

@@ -6,7 +6,7 @@ use Prim.Native.Nat.{ℕ, suc, _+_, _<_}
 use native.Mathlib.Omega.{arith}
 use lib.Dec.{leb}
 use borrow.Author.Tests.{leb-true, leb-false}
-use Rattle.tables.specs.declared.AnnotationId.{AnnotationId}
+use Rattle.file_tables.specs.declared.AnnotationId.{AnnotationId}
 use Rattle.machine.specs.Events.{Out, Why, Counts, done, stop}
 use Rattle.materialize.specs.declared.Capacity.{Capacity}
 use Rattle.materialize.specs.declared.Exhausted.{Exhausted}

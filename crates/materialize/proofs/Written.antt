@@ -21,7 +21,7 @@ use Rattle.materialize.specs.Rows.{Row, span-rows, Fits}
 use Rattle.materialize.specs.Texts.{layout, InBytes, Planned}
 use Rattle.materialize.specs.Answer.{over, after, Fitting, Materialized}
 use Rattle.materialize.specs.Walks.{pile, works, plan, pages, ends, puts, Room, Passing, Sound, Walked, Answered}
-use Rattle.materialize.specs.Writes.{wrote, Under, held-after, spans-after, ActFits, Allowed, Passes, Written, Writing}
+use Rattle.materialize.specs.Writes.{wrote, Under, depth-after, spans-after, ActFits, Allowed, Passes, Written, Writing}
 use Rattle.materialize.proofs.Parts.{under-more, open-is, top-under, rows-is, past-is, spans-rise, under-is, rows-fit, drop-later}
 use Rattle.materialize.proofs.Untested.{never}
 use Rattle.materialize.proofs.Passes.{some-around, agreed, begin, first-pile, along-begin, none-fits}
@@ -43,7 +43,7 @@ module _ {c : Capacity} {P X : List Row} {bytes : List ℕ} {root : ℕ} {S U : 
   joined : wrote bs (w .at) out ≡ head ++ drop (w .at + length bs) out
   joined = sym (append-assoc (take (w .at) out) bs (drop (w .at + length bs) out))
 
-  pub writing-step : c .spans < 2 ^ 32 → ActFits a → Writing c P X bytes root U z out₀ (wrote bs (w .at) out) (held-after a w o) s₀ (spans-after a w o s)
+  pub writing-step : c .spans < 2 ^ 32 → ActFits a → Writing c P X bytes root U z out₀ (wrote bs (w .at) out) (depth-after a w o) s₀ (spans-after a w o s)
   writing-step sf af =
       let m = g .moved in
       let so = open-is w z o s bytes a (m .room) (omega (arith, sd .depth-le)) (omega (arith, g .sound .depth-le)) in

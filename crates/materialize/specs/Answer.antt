@@ -85,9 +85,9 @@ pub record Small (c : Capacity) : Type 0 where
   pub spans-fits : c .spans < 2 ^ 32
 
 -- lent memory is not shorter than its sizes: a word for each item of the visit stack and for each open span, a row for each span
-pub record Lent (c : Capacity) (stack held output : List ℕ) (spans : List Row) : Type 0 where
+pub record Lent (c : Capacity) (visit depth output : List ℕ) (spans : List Row) : Type 0 where
   pub small : Small c
-  pub stack-lent : c .visit ≤ length stack
-  pub held-lent : c .depth ≤ length held
+  pub visit-lent : c .visit ≤ length visit
+  pub depth-lent : c .depth ≤ length depth
   pub output-lent : c .output ≤ length output
   pub spans-lent : c .spans ≤ length spans

@@ -2,12 +2,12 @@
 use mathlib.Core.List.{List, []}
 use Prim.Native.Nat.{ℕ, _+_, _≤_, _<_, _^_}
 use lib.ListN.{length, getD}
-use Rattle.tables.specs.Tables.{byte-length, byte-start}
+use Rattle.file_tables.specs.Tables.{byte-length, byte-start}
 use Rattle.layout.specs.Document.{Word}
 use Rattle.layout.specs.Layout.{Plan}
 use Rattle.plan.specs.Arena.{arena}
 use Rattle.plan.specs.Layouts.{layoutAt, Ranked}
-use Rattle.reading.specs.Reading.{word-of-row}
+use Rattle.machine_input.specs.Reading.{word-of-row}
 use Rattle.materialize.specs.Rows.{Row}
 
 abbrev pub text-row : List Row → ℕ → Row

@@ -6,7 +6,7 @@ use mathlib.Core.List.{List, [], _∷_, _++_, map}
 use Prim.Native.Nat.{ℕ, zero, suc, _+_, _-_, _≤_, _<_, _^_}
 use lib.Dec.{leb}
 use lib.ListN.{length, getD, set, take, drop, replicate}
-use Rattle.tables.specs.declared.AnnotationId.{AnnotationId}
+use Rattle.file_tables.specs.declared.AnnotationId.{AnnotationId}
 use Rattle.layout.specs.Layout.{Plan, page}
 use Rattle.layout.specs.Spans.{spans-from}
 use Rattle.plan.specs.Arena.{arena}
@@ -224,7 +224,7 @@ pub record Sound (c : Capacity) (n : ℕ) (S : List ℕ) (w : Walk) : Type 0 whe
 -- what a turn may rely on
 pub record Standing (c : Capacity) (P X : List Row) (e : List ℕ) (w : Walk) : Type 0 where
   pub some-left : 0 < w .top
-  pub stack-lent : c .visit ≤ length e
+  pub visit-lent : c .visit ≤ length e
   pub small : Small c
   pub few : length P < 2 ^ 32
   pub ranked : Ranked (length X) (arena P (length P))

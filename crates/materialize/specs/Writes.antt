@@ -22,12 +22,12 @@ abbrev pub Under : ℕ → List ℕ → Type 0
 Under n [] = Unit {0}
 Under n (x ∷ o) = (x < n) × Under n o
 
-abbrev pub held-after : Act → Walk → List ℕ → List ℕ
-held-after Pass w h = h
-held-after (Put s l) w h = h
-held-after (Line i) w h = h
-held-after (Open k) w h = set h (w .depth) (w .spans)
-held-after Close w h = h
+abbrev pub depth-after : Act → Walk → List ℕ → List ℕ
+depth-after Pass w h = h
+depth-after (Put s l) w h = h
+depth-after (Line i) w h = h
+depth-after (Open k) w h = set h (w .depth) (w .spans)
+depth-after Close w h = h
 
 abbrev pub spans-after : Act → Walk → List ℕ → List Row → List Row
 spans-after Pass w h s = s
@@ -47,7 +47,7 @@ ActFits Close = Unit {0}
 -- an act's promise
 pub record Performed (a : Act) (w : Walk) (bytes h₀ h out₀ out : List ℕ) (s₀ s : List Row) : Type 0 where
   pub output-is : out ≡ wrote (puts bytes a) (w .at) out₀
-  pub held-is : h ≡ held-after a w h₀
+  pub depth-is : h ≡ depth-after a w h₀
   pub spans-is : s ≡ spans-after a w h₀ s₀
   pub fits : ActFits a
 

@@ -7,17 +7,17 @@ ghost use mathlib.Core.List.{List, _∷_, _++_};
 ghost use Prim.Native.Nat.{ℕ, _+_, _-_, _≤_, _<_, _^_};
 ghost use lib.Dec.{leb};
 ghost use lib.ListN.{length, take, drop, getD, set, replicate};
-ghost use Rattle.tables.specs.Tables.{byte-start, byte-length};
+ghost use Rattle.file_tables.specs.Tables.{byte-start, byte-length};
 ghost use Rattle.materialize.specs.Rows.{parent-word};
 ghost use Rattle.materialize.specs.Texts.{text-row, layout, InBytes, Planned};
 ghost use Rattle.materialize.specs.Answer.{Small, Lent, Materialized};
 ghost use Rattle.materialize.specs.Walks.{Around, pile, plan, innermost, span-row, close, at-top, text-turn, newline-turn, two-turn, two-words, annotate-turn, annotate-words, Sure, Standing, Passing, Turned, Answered};
 ghost use Rattle.materialize.specs.Writes.{wrote, Under, Allowed, Performed, Passes, Written};
+use file_tables::AnnotationId;
+use file_tables::TextId;
 use plan::PlanId;
 use plan::PlanNode;
 use plan::plan_node;
-use tables::AnnotationId;
-use tables::TextId;
 
 // The sizes of 18 to 21, and the limit of 22.
 pub struct Capacity {
@@ -130,18 +130,18 @@ fn push_visits(
     act: Act,
     below: usize,
     above: usize,
-    stack: &mut [usize],
+    visit: &mut [usize],
 ) -> Visited
-    requires { ⌜ (w .top ≤ capacity .visit) × (capacity .visit ≤ length (now stack)) × Small capacity × Sure tested (two-turn capacity w act) ⌝ }
-    ensures { λ r. ⌜ (r ≡ two-turn capacity w act) × (now (stack .exit) ≡ two-words capacity w below above (now (stack .entry))) ⌝ }
+    requires { ⌜ (w .top ≤ capacity .visit) × (capacity .visit ≤ length (now visit)) × Small capacity × Sure tested (two-turn capacity w act) ⌝ }
+    ensures { λ r. ⌜ (r ≡ two-turn capacity w act) × (now (visit .exit) ≡ two-words capacity w below above (now (visit .entry))) ⌝ }
 {
     let top = w.top;
     let needed = top + 2;
     if exceeds(tested, needed, capacity.visit) {
         return Visited::Stopped(Exhausted::Visit, needed, w.visits);
     }
-    stack[top] = below;
-    stack[top + 1] = above;
+    visit[top] = below;
+    visit[top + 1] = above;
     let mut z = w;
     z.top = needed;
     Visited::Went(z, act)
@@ -154,10 +154,10 @@ fn visit_annotate(
     w: Walk,
     annotation: AnnotationId,
     child: PlanId,
-    stack: &mut [usize],
+    visit: &mut [usize],
 ) -> Visited
-    requires { ⌜ (w .top ≤ capacity .visit) × (w .spans ≤ capacity .spans) × (w .depth ≤ capacity .depth) × (capacity .visit ≤ length (now stack)) × Small capacity × Sure tested (annotate-turn capacity w annotation) ⌝ }
-    ensures { λ r. ⌜ (r ≡ annotate-turn capacity w annotation) × (now (stack .exit) ≡ annotate-words capacity w (child .0 + 1) (now (stack .entry))) ⌝ }
+    requires { ⌜ (w .top ≤ capacity .visit) × (w .spans ≤ capacity .spans) × (w .depth ≤ capacity .depth) × (capacity .visit ≤ length (now visit)) × Small capacity × Sure tested (annotate-turn capacity w annotation) ⌝ }
+    ensures { λ r. ⌜ (r ≡ annotate-turn capacity w annotation) × (now (visit .exit) ≡ annotate-words capacity w (child .0 + 1) (now (visit .entry))) ⌝ }
 {
     let spans = w.spans + 1;
     if exceeds(tested, spans, capacity.spans) {
@@ -171,7 +171,7 @@ fn visit_annotate(
     let mut z = w;
     z.spans = spans;
     z.depth = depth;
-    push_visits(capacity, tested, z, Act::Open(annotation), 0, above, stack)
+    push_visits(capacity, tested, z, Act::Open(annotation), 0, above, visit)
 }
 
 fn visit_concat(
@@ -180,22 +180,22 @@ fn visit_concat(
     w: Walk,
     left: PlanId,
     right: PlanId,
-    stack: &mut [usize],
+    visit: &mut [usize],
 ) -> Visited
-    requires { ⌜ (w .top ≤ capacity .visit) × (capacity .visit ≤ length (now stack)) × Small capacity × Sure tested (two-turn capacity w Act.Pass) ⌝ }
-    ensures { λ r. ⌜ (r ≡ two-turn capacity w Act.Pass) × (now (stack .exit) ≡ two-words capacity w (right .0 + 1) (left .0 + 1) (now (stack .entry))) ⌝ }
+    requires { ⌜ (w .top ≤ capacity .visit) × (capacity .visit ≤ length (now visit)) × Small capacity × Sure tested (two-turn capacity w Act.Pass) ⌝ }
+    ensures { λ r. ⌜ (r ≡ two-turn capacity w Act.Pass) × (now (visit .exit) ≡ two-words capacity w (right .0 + 1) (left .0 + 1) (now (visit .entry))) ⌝ }
 {
     let below = word_of(right);
     let above = word_of(left);
-    push_visits(capacity, tested, w, Act::Pass, below, above, stack)
+    push_visits(capacity, tested, w, Act::Pass, below, above, visit)
 }
 
-fn visit_penalty(w: Walk, child: PlanId, stack: &mut [usize]) -> Visited
-    requires { ⌜ w .top < length (now stack) ⌝ }
-    ensures { λ r. ⌜ (r ≡ Visited.Went (at-top w (w .top + 1)) Act.Pass) × (now (stack .exit) ≡ set (now (stack .entry)) (w .top) (child .0 + 1)) ⌝ }
+fn visit_penalty(w: Walk, child: PlanId, visit: &mut [usize]) -> Visited
+    requires { ⌜ w .top < length (now visit) ⌝ }
+    ensures { λ r. ⌜ (r ≡ Visited.Went (at-top w (w .top + 1)) Act.Pass) × (now (visit .exit) ≡ set (now (visit .entry)) (w .top) (child .0 + 1)) ⌝ }
 {
     let top = w.top;
-    stack[top] = word_of(child);
+    visit[top] = word_of(child);
     let mut z = w;
     z.top = top + 1;
     Visited::Went(z, Act::Pass)
@@ -208,13 +208,13 @@ fn visit_item(
     w: Walk,
     plans: &[[u32; 3]],
     texts: &[[u32; 3]],
-    stack: &mut [usize],
+    visit: &mut [usize],
 ) -> Visited
-    requires { ⌜ Standing capacity (now plans) (now texts) (now stack) w × (w .visits < capacity .«visit_limit») × (tested ≡ false → Passing capacity (now plans) (now texts) (now stack) w) ⌝ }
-    ensures { λ r. ⌜ ((o : Around) (bytes : List ℕ) → InBytes (now (texts .entry)) bytes → Turned capacity o (now (plans .entry)) (now (texts .entry)) bytes (now (stack .entry)) w (now (stack .exit)) r) ⌝ }
+    requires { ⌜ Standing capacity (now plans) (now texts) (now visit) w × (w .visits < capacity .«visit_limit») × (tested ≡ false → Passing capacity (now plans) (now texts) (now visit) w) ⌝ }
+    ensures { λ r. ⌜ ((o : Around) (bytes : List ℕ) → InBytes (now (texts .entry)) bytes → Turned capacity o (now (plans .entry)) (now (texts .entry)) bytes (now (visit .entry)) w (now (visit .exit)) r) ⌝ }
 {
     let top = w.top - 1;
-    let item = stack[top];
+    let item = visit[top];
     let mut z = w;
     z.top = top;
     z.visits = w.visits + 1;
@@ -235,13 +235,13 @@ fn visit_item(
             return visit_newline(capacity, tested, z, indent);
         }
         PlanNode::Concat { left, right } => {
-            return visit_concat(capacity, tested, z, left, right, stack);
+            return visit_concat(capacity, tested, z, left, right, visit);
         }
         PlanNode::Annotate { annotation, child } => {
-            return visit_annotate(capacity, tested, z, annotation, child, stack);
+            return visit_annotate(capacity, tested, z, annotation, child, visit);
         }
         PlanNode::Penalty { amount: _, child } => {
-            return visit_penalty(z, child, stack);
+            return visit_penalty(z, child, visit);
         }
     }
 }
@@ -251,17 +251,17 @@ fn measure(
     capacity: Capacity,
     plans: &[[u32; 3]],
     texts: &[[u32; 3]],
-    stack: &mut [usize],
+    visit: &mut [usize],
     root: PlanId,
 ) -> Measured
-    requires { ⌜ (capacity .visit ≤ length (now stack)) × Small capacity × Planned (now plans) (length (now plans)) (now texts) (root .0) ⌝ }
+    requires { ⌜ (capacity .visit ≤ length (now visit)) × Small capacity × Planned (now plans) (length (now plans)) (now texts) (root .0) ⌝ }
     ensures { λ r. ⌜ ((bytes : List ℕ) → InBytes (now (texts .entry)) bytes → Answered capacity (plan (now (plans .entry)) (now (texts .entry)) bytes (root .0)) r) ⌝ }
 {
     if capacity.visit == 0 {
         return Measured::Refused(Exhausted::Visit, 1, 0);
     }
     let number = root.0;
-    stack[0] = word_of(PlanId(number));
+    visit[0] = word_of(PlanId(number));
     let mut w = Walk {
         top: 1,
         depth: 0,
@@ -273,7 +273,7 @@ fn measure(
         if capacity.visit_limit <= w.visits {
             return Measured::Refused(Exhausted::Visits, 0, w.visits);
         }
-        let s = visit_item(capacity, true, w, plans, texts, stack);
+        let s = visit_item(capacity, true, w, plans, texts, visit);
         match s {
             Visited::Stopped(e, needed, visits) => {
                 return Measured::Refused(e, needed, visits);
@@ -329,38 +329,38 @@ fn put_newline(indent: usize, output: &mut [u8], at: usize)
 }
 
 // The span around what opens next, as a word: 0, or one more than its number.
-fn parent(held: &[usize], depth: usize) -> usize
-    requires { ⌜ (depth ≤ length (now held)) × Under (2 ^ 32) (pile (now held) depth) ⌝ }
-    ensures { λ r. ⌜ r ≡ parent-word (innermost (pile (now (held .entry)) depth)) ⌝ }
+fn parent(depth: &[usize], level: usize) -> usize
+    requires { ⌜ (level ≤ length (now depth)) × Under (2 ^ 32) (pile (now depth) level) ⌝ }
+    ensures { λ r. ⌜ r ≡ parent-word (innermost (pile (now (depth .entry)) level)) ⌝ }
 {
-    if depth == 0 {
+    if level == 0 {
         return 0;
     }
-    held[depth - 1] + 1
+    depth[level - 1] + 1
 }
 
 // A span opens: its row, whose end is not known yet, and its number among the open ones.
-fn push_open_span(annotation: AnnotationId, w: Walk, held: &mut [usize], spans: &mut [[u64; 4]])
-    requires { ⌜ (w .depth < length (now held)) × (w .spans < length (now spans)) × Under (2 ^ 32) (pile (now held) (w .depth)) ⌝ }
-    ensures { λ _. ⌜ (now (held .exit) ≡ set (now (held .entry)) (w .depth) (w .spans)) × (now (spans .exit) ≡ set (now (spans .entry)) (w .spans) (span-row (annotation .0) (w .at) (w .at) (innermost (pile (now (held .entry)) (w .depth))))) × (annotation .0 < 2 ^ 32) ⌝ }
+fn push_open_span(annotation: AnnotationId, w: Walk, depth: &mut [usize], spans: &mut [[u64; 4]])
+    requires { ⌜ (w .depth < length (now depth)) × (w .spans < length (now spans)) × Under (2 ^ 32) (pile (now depth) (w .depth)) ⌝ }
+    ensures { λ _. ⌜ (now (depth .exit) ≡ set (now (depth .entry)) (w .depth) (w .spans)) × (now (spans .exit) ≡ set (now (spans .entry)) (w .spans) (span-row (annotation .0) (w .at) (w .at) (innermost (pile (now (depth .entry)) (w .depth))))) × (annotation .0 < 2 ^ 32) ⌝ }
 {
-    let depth = w.depth;
+    let level = w.depth;
     let n = w.spans;
     let at = w.at;
-    let up = parent(held, depth);
+    let up = parent(depth, level);
     let number = annotation.0;
     spans[n] = [number as u64, at as u64, at as u64, up as u64];
-    held[depth] = n;
+    depth[level] = n;
 }
 
 // The last open span closes.
-fn pop_open_span(w: Walk, held: &[usize], spans: &mut [[u64; 4]])
-    requires { ⌜ (0 < w .depth) × (w .depth ≤ length (now held)) × (getD (now held) (w .depth - 1) 0 < length (now spans)) ⌝ }
-    ensures { λ _. ⌜ now (spans .exit) ≡ close (now (spans .entry)) (getD (now (held .entry)) (w .depth - 1) 0) (w .at) ⌝ }
+fn pop_open_span(w: Walk, depth: &[usize], spans: &mut [[u64; 4]])
+    requires { ⌜ (0 < w .depth) × (w .depth ≤ length (now depth)) × (getD (now depth) (w .depth - 1) 0 < length (now spans)) ⌝ }
+    ensures { λ _. ⌜ now (spans .exit) ≡ close (now (spans .entry)) (getD (now (depth .entry)) (w .depth - 1) 0) (w .at) ⌝ }
 {
-    let depth = w.depth;
+    let level = w.depth;
     let at = w.at;
-    let n = held[depth - 1];
+    let n = depth[level - 1];
     spans[n][2] = at as u64;
 }
 
@@ -369,12 +369,12 @@ fn perform(
     act: Act,
     w: Walk,
     bytes: &[u8],
-    held: &mut [usize],
+    depth: &mut [usize],
     output: &mut [u8],
     spans: &mut [[u64; 4]],
 )
-    requires { ⌜ Allowed act w (now bytes) (now held) (now output) (now spans) ⌝ }
-    ensures { λ _. ⌜ Performed act w (now (bytes .entry)) (now (held .entry)) (now (held .exit)) (now (output .entry)) (now (output .exit)) (now (spans .entry)) (now (spans .exit)) ⌝ }
+    requires { ⌜ Allowed act w (now bytes) (now depth) (now output) (now spans) ⌝ }
+    ensures { λ _. ⌜ Performed act w (now (bytes .entry)) (now (depth .entry)) (now (depth .exit)) (now (output .entry)) (now (output .exit)) (now (spans .entry)) (now (spans .exit)) ⌝ }
 {
     let at = w.at;
     match act {
@@ -386,10 +386,10 @@ fn perform(
             put_newline(indent, output, at);
         }
         Act::Open(annotation) => {
-            push_open_span(annotation, w, held, spans);
+            push_open_span(annotation, w, depth, spans);
         }
         Act::Close => {
-            pop_open_span(w, held, spans);
+            pop_open_span(w, depth, spans);
         }
     }
 }
@@ -400,17 +400,17 @@ fn write(
     plans: &[[u32; 3]],
     texts: &[[u32; 3]],
     bytes: &[u8],
-    stack: &mut [usize],
-    held: &mut [usize],
+    visit: &mut [usize],
+    depth: &mut [usize],
     output: &mut [u8],
     spans: &mut [[u64; 4]],
     root: PlanId,
 )
-    requires { ⌜ Lent capacity (now stack) (now held) (now output) (now spans) × Planned (now plans) (length (now plans)) (now texts) (root .0) × InBytes (now texts) (now bytes) × Passes capacity (plan (now plans) (now texts) (now bytes) (root .0)) ⌝ }
+    requires { ⌜ Lent capacity (now visit) (now depth) (now output) (now spans) × Planned (now plans) (length (now plans)) (now texts) (root .0) × InBytes (now texts) (now bytes) × Passes capacity (plan (now plans) (now texts) (now bytes) (root .0)) ⌝ }
     ensures { λ _. ⌜ Written (plan (now (plans .entry)) (now (texts .entry)) (now (bytes .entry)) (root .0)) (now (output .entry)) (now (output .exit)) (now (spans .entry)) (now (spans .exit)) ⌝ }
 {
     let number = root.0;
-    stack[0] = word_of(PlanId(number));
+    visit[0] = word_of(PlanId(number));
     let mut w = Walk {
         top: 1,
         depth: 0,
@@ -419,13 +419,13 @@ fn write(
         visits: 0,
     };
     while 0 < w.top {
-        let s = visit_item(capacity, false, w, plans, texts, stack);
+        let s = visit_item(capacity, false, w, plans, texts, visit);
         match s {
             Visited::Stopped(_, _, _) => {
                 return;
             }
             Visited::Went(z, act) => {
-                perform(act, w, bytes, held, output, spans);
+                perform(act, w, bytes, depth, output, spans);
                 w = z;
             }
         }
@@ -439,16 +439,16 @@ pub fn materialize(
     count: usize,
     texts: &[[u32; 3]],
     bytes: &[u8],
-    stack: &mut [usize],
-    held: &mut [usize],
+    visit: &mut [usize],
+    depth: &mut [usize],
     output: &mut [u8],
     spans: &mut [[u64; 4]],
     root: PlanId,
 ) -> Measured
-    requires { ⌜ Lent capacity (now stack) (now held) (now output) (now spans) × Planned (now plans) count (now texts) (root .0) × InBytes (now texts) (now bytes) ⌝ }
+    requires { ⌜ Lent capacity (now visit) (now depth) (now output) (now spans) × Planned (now plans) count (now texts) (root .0) × InBytes (now texts) (now bytes) ⌝ }
     ensures { λ r. ⌜ Materialized capacity (layout (now (plans .entry)) count (now (texts .entry)) (now (bytes .entry)) (root .0)) (now (output .entry)) (now (output .exit)) (now (spans .entry)) (now (spans .exit)) r ⌝ }
 {
-    let m = measure(capacity, &plans[..count], texts, stack, root);
+    let m = measure(capacity, &plans[..count], texts, visit, root);
     match m {
         Measured::Refused(e, needed, visits) => {
             return Measured::Refused(e, needed, visits);
@@ -459,8 +459,8 @@ pub fn materialize(
                 &plans[..count],
                 texts,
                 bytes,
-                stack,
-                held,
+                visit,
+                depth,
                 output,
                 spans,
                 root,

@@ -85,11 +85,11 @@ pub fn memo_slots_for(entries: u32) -> usize
 }
 
 // The entry that slot `s` names, or `count` where the slot is not live.
-fn named(slots: &[u64], entries: &[[u64; 6]], count: usize, s: usize) -> usize
-    requires { ⌜ (s < length (now slots)) × (count ≤ length (now entries)) ⌝ }
-    ensures { λ r. ⌜ Named (now (slots .entry)) (now (entries .entry)) count s r ⌝ }
+fn named(index: &[u64], entries: &[[u64; 6]], count: usize, s: usize) -> usize
+    requires { ⌜ (s < length (now index)) × (count ≤ length (now entries)) ⌝ }
+    ensures { λ r. ⌜ Named (now (index .entry)) (now (entries .entry)) count s r ⌝ }
 {
-    let k = slots[s] as usize;
+    let k = index[s] as usize;
     if count <= k {
         return count;
     }
@@ -128,16 +128,16 @@ fn after(s: usize, n: usize) -> usize
 }
 
 // The search, from the key's own slot on, which the mask of a power of two gives. It ends after as many turns as there are slots.
-fn find(slots: &[u64], entries: &[[u64; 6]], count: usize, key: MemoKey) -> Spot
-    requires { ⌜ (count ≤ length (now entries)) × Power (length (now slots)) ⌝ }
-    ensures { λ r. ⌜ Spotted (now (slots .entry)) (now (entries .entry)) count key r ⌝ }
+fn find(index: &[u64], entries: &[[u64; 6]], count: usize, key: MemoKey) -> Spot
+    requires { ⌜ (count ≤ length (now entries)) × Power (length (now index)) ⌝ }
+    ensures { λ r. ⌜ Spotted (now (index .entry)) (now (entries .entry)) count key r ⌝ }
 {
-    let n = slots.len();
+    let n = index.len();
     let hash = memo_hash(key) as usize;
     let mut s = hash & (n - 1);
     let mut t: usize = 0;
     while t < n {
-        let k = named(slots, entries, count, s);
+        let k = named(index, entries, count, s);
         if k == count {
             return Spot::Free(s);
         }
@@ -151,14 +151,14 @@ fn find(slots: &[u64], entries: &[[u64; 6]], count: usize, key: MemoKey) -> Spot
 }
 
 // The range that was entered for the key. While there is no entry, and so at size 0, no memory is touched.
-pub fn memo_get(slots: &[u64], entries: &[[u64; 6]], count: usize, key: MemoKey) -> MemoLookup
-    requires { ⌜ Sound (now slots) (now entries) count ⌝ }
+pub fn memo_get(index: &[u64], entries: &[[u64; 6]], count: usize, key: MemoKey) -> MemoLookup
+    requires { ⌜ Sound (now index) (now entries) count ⌝ }
     ensures { λ r. ⌜ r ≡ lookup (listed (now (entries .entry)) count) key ⌝ }
 {
     if count == 0 {
         return MemoLookup::Nothing;
     }
-    match find(slots, entries, count, key) {
+    match find(index, entries, count, key) {
         Spot::Taken(k) => {
             let start = entries[k][3];
             let len = entries[k][4];
@@ -174,21 +174,21 @@ pub fn memo_get(slots: &[u64], entries: &[[u64; 6]], count: usize, key: MemoKey)
 
 // The range under the key, in the place of the key's entry if there is one. At most `size` entries.
 pub fn memo_insert(
-    slots: &mut [u64],
+    index: &mut [u64],
     entries: &mut [[u64; 6]],
     count: usize,
     size: usize,
     key: MemoKey,
     range: CandidateRange,
 ) -> MemoInsertion
-    requires { ⌜ (Sound (now slots) (now entries) count) × ((size ≤ length (now entries)) × (size ≤ length (now slots))) ⌝ }
-    ensures { λ r. ⌜ Insertion (now (slots .entry)) (now (entries .entry)) count size (now (slots .exit)) (now (entries .exit)) (record { key = key; range = range }) r ⌝ }
+    requires { ⌜ (Sound (now index) (now entries) count) × ((size ≤ length (now entries)) × (size ≤ length (now index))) ⌝ }
+    ensures { λ r. ⌜ Insertion (now (index .entry)) (now (entries .entry)) count size (now (index .exit)) (now (entries .exit)) (record { key = key; range = range }) r ⌝ }
 {
     if size <= count {
         let needed = (count + 1) as u64;
         return MemoInsertion::Full { needed: needed };
     }
-    match find(slots, entries, count, key) {
+    match find(index, entries, count, key) {
         Spot::Free(s) => {
             entries[count] = [
                 key.node as u64,
@@ -198,7 +198,7 @@ pub fn memo_insert(
                 range.len,
                 s as u64,
             ];
-            slots[s] = count as u64;
+            index[s] = count as u64;
             MemoInsertion::Inserted(count + 1)
         }
         Spot::Taken(k) => {

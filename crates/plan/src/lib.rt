@@ -5,8 +5,8 @@ ghost use Prim.Native.Nat.{_+_, _≤_, _<_, _^_};
 ghost use lib.ListN.{length};
 ghost use Rattle.plan.specs.Records.{recordOf, pendingOf, nodeAt};
 ghost use Rattle.plan.specs.Arena.{view, additions, roomFor, Committing};
-use tables::AnnotationId;
-use tables::TextId;
+use file_tables::AnnotationId;
+use file_tables::TextId;
 
 pub struct PlanId(pub u32);
 

@@ -1,23 +1,20 @@
 -- What the parts of `read` say of the whole.
 use mathlib.Core.Path.{_≡_, sym, _∙_}
-use mathlib.Core.Bool.{false, true≢false}
 use mathlib.Core.List.{List}
 use Prim.Native.Nat.{ℕ, _≤_}
 use native.Mathlib.Omega.{arith}
 use lib.ListN.{length, take}
-use lib.Dec.{leb}
-use borrow.Author.Tests.{leb-true, leb-false}
-use Rattle.tables.specs.Tables.{Tables}
-use Rattle.form.specs.declared.fill.Counts.{Counts}
-use Rattle.form.specs.declared.fill.Filled.{Filled}
-use Rattle.form.specs.Form.{formFault, tablesOf, countsOf, tables-held, Holds, Filling}
-use Rattle.encode.specs.Encode.{Sized}
-use Rattle.encode.specs.Fields.{Bytes}
-use Rattle.encode.specs.TextTrip.{texts-total}
-use Rattle.encode.specs.Trips.{Encoded, encoded, Right, tables-right, texts-inside}
-use Rattle.rules.specs.Judged.{Formed, Judged}
+use Rattle.file_tables.specs.Tables.{Tables}
+use Rattle.file_form.specs.declared.fill.Counts.{Counts}
+use Rattle.file_form.specs.declared.fill.Filled.{Filled}
+use Rattle.file_form.specs.Form.{formFault, tablesOf, countsOf, tables-held, Holds, Filling}
+use Rattle.file_encode.specs.Encode.{Sized}
+use Rattle.file_encode.specs.Fields.{Bytes}
+use Rattle.file_encode.specs.TextTrip.{texts-total}
+use Rattle.file_encode.specs.Trips.{Encoded, encoded, Right, tables-right, texts-inside}
+use Rattle.file_checks.specs.Judged.{Formed, Judged}
 use Rattle.prepare.specs.declared.read.Answer.the-variants.{Accepted, Refused}
-use Rattle.prepare.specs.File.{ill, wrong, right, Lent, LentTold, Reads, refused, accepted}
+use Rattle.prepare.specs.File.{ill, wrong, right, Reads, refused, accepted}
 
 -- the counts of an accepted file, each within its limit
 pub record Bounds (n : Counts) : Type 0 where
@@ -70,14 +67,3 @@ module _ (s : List ℕ) (f : Filled) (ns : List (List ℕ)) (es xs : List ℕ) (
 
   pub answer-right : {lent : Type 0} → lent → f .fault ≡ 0 → (w : ℕ) → w ≡ 0 → Judged (tables-held (f .counts) ns es xs ts bs) w → Reads s lent ns es xs ts bs (Accepted (f .counts))
   answer-right l e w z j = rw (g .counts) (accepted l (right (well e) (rw (same, z) at j)) (g .held))
-
--- whether the tables are lent at their limits
-pub lent-no : (n e x t b : ℕ) → (Lent n e x t b → ⊥) → LentTold n e x t b false
-lent-no n e x t b h = record { yes = λ q. absurd (true≢false (sym q)); no = λ _ l. h l }
-
-pub lent-end : (n e x t b : ℕ) → 4096 ≤ n → 16384 ≤ e → 16384 ≤ x → 4096 ≤ t → LentTold n e x t b (leb 65536 b)
-lent-end n e x t b h₁ h₂ h₃ h₄ =
-    record {
-      yes = λ q. record { nodes-lent = h₁; edges-lent = h₂; choices-lent = h₃; texts-lent = h₄; bytes-lent = leb-true 65536 b q };
-      no = λ q l. omega (arith, leb-false 65536 b q, l .bytes-lent);
-    }

@@ -5,13 +5,13 @@ use Prim.Native.Nat.{ℕ, _+_, _≤_, _<_}
 use native.Mathlib.Omega.{arith}
 use lib.ListN.{length, take, drop}
 use lib.Seq.{sets-eq, length-take-le}
-use Rattle.tables.specs.Tables.{Tables, tables}
-use Rattle.encode.specs.Encode.{encode, lengths, Sized}
-use Rattle.encode.specs.Faults.{orElse, headerFault, nodesFault, textsFault, tablesFault}
-use Rattle.encode.specs.NodeTrip.{or-zero}
-use Rattle.encode.specs.Trips.{tables-right, texts-inside}
-use Rattle.put.specs.Put.{Put}
-use Rattle.rules.specs.Judged.{Formed, Judged}
+use Rattle.file_tables.specs.Tables.{Tables, tables}
+use Rattle.file_encode.specs.Encode.{encode, lengths, Sized}
+use Rattle.file_encode.specs.Faults.{orElse, headerFault, nodesFault, textsFault, tablesFault}
+use Rattle.file_encode.specs.NodeTrip.{or-zero}
+use Rattle.file_encode.specs.Trips.{tables-right, texts-inside}
+use Rattle.file_put.specs.Put.{Put}
+use Rattle.file_checks.specs.Judged.{Formed, Judged}
 use Rattle.prepare.specs.declared.write.Outcome.{Outcome}
 use Rattle.prepare.specs.declared.write.Outcome.the-variants.{Written, Refused}
 use Rattle.prepare.specs.Writing.{Writes, order, ill, wrong, room, written}

@@ -1,11 +1,9 @@
 -- What a byte string is, and what `read` promises (document 01, "Prepared file", "Calls").
 use Prim.Native.Nat.{ℕ, _≤_}
 use mathlib.Core.Path.{_≡_}
-use mathlib.Core.Bool.{Bool, true, false}
 use mathlib.Core.List.{List}
-use lib.ListN.{length}
-use Rattle.form.specs.Form.{formFault, tablesOf, countsOf, Holds}
-use Rattle.rules.specs.Judged.{Judged}
+use Rattle.file_form.specs.Form.{formFault, tablesOf, countsOf, Holds}
+use Rattle.file_checks.specs.Judged.{Judged}
 use Rattle.prepare.specs.declared.read.Answer.{Answer}
 use Rattle.prepare.specs.declared.read.Answer.the-variants.{Accepted, Refused}
 
@@ -16,17 +14,12 @@ pub data Means (s : List ℕ) : Answer → Type 0 where
   right : formFault s ≡ 0 → Judged (tablesOf s) 0 → Means s (Accepted (countsOf s))
 
 -- each table is lent at its limit
-pub record Lent (nodes edges choices texts bytes : ℕ) : Type 0 where
+pub record TablesLent (nodes edges choices texts bytes : ℕ) : Type 0 where
   pub nodes-lent : 4096 ≤ nodes
   pub edges-lent : 16384 ≤ edges
   pub choices-lent : 16384 ≤ choices
   pub texts-lent : 4096 ≤ texts
   pub bytes-lent : 65536 ≤ bytes
-
--- whether they are
-pub record LentTold (nodes edges choices texts bytes : ℕ) (told : Bool) : Type 0 where
-  pub yes : told ≡ true → Lent nodes edges choices texts bytes
-  pub no : told ≡ false → Lent nodes edges choices texts bytes → ⊥
 
 -- the answer to a file s, with lent tables of these lengths, and the tables at exit: a table lent shorter than its limit is 1, before everything;
 -- else the answer is what s means; after an acceptance the tables hold exactly those of s up to the counts, after a refusal anything

@@ -6,15 +6,15 @@ use Prim.Native.Nat.{ℕ, _≤_, min}
 use native.Mathlib.Omega.{arith}
 use lib.ListN.{length, take, drop, length-take}
 use lib.Seq.{take-at}
-use Rattle.tables.specs.Tables.{Tables}
-use Rattle.form.specs.declared.fill.Counts.{Counts}
-use Rattle.form.specs.Form.{formFault, tablesOf, countsOf, Holds}
-use Rattle.encode.specs.Encode.{encode, lengths}
-use Rattle.encode.specs.Faults.{tablesFault}
-use Rattle.encode.specs.Fields.{Bytes}
-use Rattle.encode.specs.Trips.{Encoded, encoded, reads-back}
-use Rattle.rules.proofs.Exactly.{judged-one}
-use Rattle.rules.specs.Judged.{Judged, Accepted as Kept, reference, text, space, circle, list, accepted}
+use Rattle.file_tables.specs.Tables.{Tables}
+use Rattle.file_form.specs.declared.fill.Counts.{Counts}
+use Rattle.file_form.specs.Form.{formFault, tablesOf, countsOf, Holds}
+use Rattle.file_encode.specs.Encode.{encode, lengths}
+use Rattle.file_encode.specs.Faults.{tablesFault}
+use Rattle.file_encode.specs.Fields.{Bytes}
+use Rattle.file_encode.specs.Trips.{Encoded, encoded, reads-back}
+use Rattle.file_checks.proofs.Exactly.{judged-one}
+use Rattle.file_checks.specs.Judged.{Judged, Accepted as Kept, reference, text, space, circle, list, accepted}
 use Rattle.prepare.specs.declared.read.Answer.{Answer}
 use Rattle.prepare.specs.declared.read.Answer.the-variants.{Accepted, Refused}
 use Rattle.prepare.specs.declared.write.Outcome.{Outcome}

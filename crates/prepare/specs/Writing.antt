@@ -3,12 +3,12 @@ use Prim.Native.Nat.{ℕ, _≤_, _<_}
 use mathlib.Core.Path.{_≡_}
 use mathlib.Core.List.{List, _++_}
 use lib.ListN.{length, take, drop}
-use Rattle.tables.specs.Tables.{Tables}
-use Rattle.form.specs.declared.fill.Counts.{Counts}
-use Rattle.form.specs.Form.{first-tables}
-use Rattle.encode.specs.Encode.{encode, lengths, Sized}
-use Rattle.encode.specs.Faults.{tablesFault}
-use Rattle.rules.specs.Judged.{Judged}
+use Rattle.file_tables.specs.Tables.{Tables}
+use Rattle.file_form.specs.declared.fill.Counts.{Counts}
+use Rattle.file_form.specs.Form.{first-tables}
+use Rattle.file_encode.specs.Encode.{encode, lengths, Sized}
+use Rattle.file_encode.specs.Faults.{tablesFault}
+use Rattle.file_checks.specs.Judged.{Judged}
 use Rattle.prepare.specs.declared.write.Outcome.{Outcome}
 use Rattle.prepare.specs.declared.write.Outcome.the-variants.{Written, Refused}
 

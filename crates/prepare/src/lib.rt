@@ -1,3 +1,3 @@
-// The prepared file, read into lent tables and written from them.
+// `read` and `write` of prepared files: lent bytes into lent tables and back, each with all its refusals in order.
 pub mod read;
 pub mod write;

@@ -1,13 +1,13 @@
 // The reader: 1, then 2 to 5 field by field, then 6 to 10 over the whole file.
-ghost use mathlib.Core.Path.{_≡_};
 ghost use Prim.Native.Nat.{_≤_};
 ghost use lib.ListN.{length};
-ghost use Rattle.tables.specs.Tables.{tables};
-ghost use Rattle.rules.specs.Judged.{Formed, Judged};
-ghost use Rattle.prepare.specs.File.{Lent, LentTold, Reads};
-use form::fill::Counts;
-use form::fill::fill;
-use rules::judge;
+ghost use Rattle.file_tables.specs.Tables.{tables};
+ghost use Rattle.file_checks.specs.Judged.{Formed, Judged};
+ghost use Rattle.file_checks.specs.Told.{Told};
+ghost use Rattle.prepare.specs.File.{TablesLent, Reads};
+use file_checks::judge;
+use file_form::fill::Counts;
+use file_form::fill::fill;
 
 pub enum Answer {
     Accepted(Counts),
@@ -52,8 +52,8 @@ pub fn read_lent(
     texts: &mut [[u32; 3]],
     bytes: &mut [u8],
 ) -> Answer
-    requires { ⌜ Lent (length (now nodes)) (length (now edges)) (length (now choices)) (length (now texts)) (length (now bytes)) ⌝ }
-    ensures { λ r. ⌜ Reads (now (file .entry)) (Lent (length (now (nodes .entry))) (length (now (edges .entry))) (length (now (choices .entry))) (length (now (texts .entry))) (length (now (bytes .entry)))) (now (nodes .exit)) (now (edges .exit)) (now (choices .exit)) (now (texts .exit)) (now (bytes .exit)) r ⌝ }
+    requires { ⌜ TablesLent (length (now nodes)) (length (now edges)) (length (now choices)) (length (now texts)) (length (now bytes)) ⌝ }
+    ensures { λ r. ⌜ Reads (now (file .entry)) (TablesLent (length (now (nodes .entry))) (length (now (edges .entry))) (length (now (choices .entry))) (length (now (texts .entry))) (length (now (bytes .entry)))) (now (nodes .exit)) (now (edges .exit)) (now (choices .exit)) (now (texts .exit)) (now (bytes .exit)) r ⌝ }
 {
     let f = fill(file, nodes, edges, choices, texts, bytes);
     if f.fault != 0 {
@@ -79,8 +79,9 @@ pub fn read_lent(
     Answer::Accepted(n)
 }
 
-fn lent(nodes: usize, edges: usize, choices: usize, texts: usize, bytes: usize) -> bool
-    ensures { λ r. ⌜ LentTold nodes edges choices texts bytes r ⌝ }
+// Whether each table is lent at its limit (1 where one is not).
+pub fn tables_lent(nodes: usize, edges: usize, choices: usize, texts: usize, bytes: usize) -> bool
+    ensures { λ r. ⌜ Told (TablesLent nodes edges choices texts bytes) r ⌝ }
 {
     if nodes < 4096 {
         return false;
@@ -105,9 +106,9 @@ pub fn read(
     texts: &mut [[u32; 3]],
     bytes: &mut [u8],
 ) -> Answer
-    ensures { λ r. ⌜ Reads (now (file .entry)) (Lent (length (now (nodes .entry))) (length (now (edges .entry))) (length (now (choices .entry))) (length (now (texts .entry))) (length (now (bytes .entry)))) (now (nodes .exit)) (now (edges .exit)) (now (choices .exit)) (now (texts .exit)) (now (bytes .exit)) r ⌝ }
+    ensures { λ r. ⌜ Reads (now (file .entry)) (TablesLent (length (now (nodes .entry))) (length (now (edges .entry))) (length (now (choices .entry))) (length (now (texts .entry))) (length (now (bytes .entry)))) (now (nodes .exit)) (now (edges .exit)) (now (choices .exit)) (now (texts .exit)) (now (bytes .exit)) r ⌝ }
 {
-    if !lent(
+    if !tables_lent(
         nodes.len(),
         edges.len(),
         choices.len(),

@@ -3,19 +3,19 @@ ghost use mathlib.Core.Path.{_≡_};
 ghost use Prim.Native.Nat.{ℕ, _≤_, _<_};
 ghost use mathlib.Core.List.{List};
 ghost use lib.ListN.{length, take};
-ghost use Rattle.encode.specs.Encode.{lengths, Wide, Sized};
-ghost use Rattle.encode.specs.Faults.{tablesFault};
-ghost use Rattle.tables.specs.Tables.{tables};
-ghost use Rattle.rules.specs.Judged.{Judged};
+ghost use Rattle.file_encode.specs.Encode.{lengths, Wide, Sized};
+ghost use Rattle.file_encode.specs.Faults.{tablesFault};
+ghost use Rattle.file_tables.specs.Tables.{tables};
+ghost use Rattle.file_checks.specs.Judged.{Judged};
 ghost use Rattle.prepare.specs.Writing.{lentTables, LentAt, Cut, Writes};
 use crate::read::judged;
-use encode::faults::header_fault;
-use encode::faults::nodes_fault;
-use encode::faults::or_else;
-use encode::faults::texts_fault;
-use form::fill::Counts;
-use put::put_tables;
-use put::text_total;
+use file_encode::faults::header_fault;
+use file_encode::faults::nodes_fault;
+use file_encode::faults::or_else;
+use file_encode::faults::texts_fault;
+use file_form::fill::Counts;
+use file_put::put_tables;
+use file_put::text_total;
 
 pub enum Outcome {
     // How many bytes were written.

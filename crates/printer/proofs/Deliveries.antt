@@ -10,8 +10,8 @@ use Rattle.layout.specs.Spans.{Span}
 use Rattle.stats.specs.declared.SolveStats.{SolveStats}
 use Rattle.spans.specs.declared.AnnotationSpan.{AnnotationSpan}
 use Rattle.spans.specs.Spans.{RowFits, spanOf, parentOf, laid}
-use Rattle.workspace.specs.declared.Bounds.{Bounds}
-use Rattle.workspace.specs.declared.RenderOptions.{RenderOptions}
+use Rattle.solve_workspace.specs.declared.Bounds.{Bounds}
+use Rattle.solve_workspace.specs.declared.RenderOptions.{RenderOptions}
 use Rattle.materialize.specs.Rows.{Row}
 use Rattle.render.specs.declared.page.Rendered.{Rendered}
 use Rattle.render.specs.declared.page.Rendered.the-variants.{Page, Refused}

@@ -11,9 +11,9 @@ use Rattle.machine.specs.Answer.{Answer, paged}
 use Rattle.answer.specs.Answer.{Answers, out-of-order, wrong-file, laid-out, rules-of, document-of}
 use Rattle.answer.specs.Page.{right-refusal}
 use Rattle.stats.specs.Counts.{none-counted}
-use Rattle.workspace.specs.declared.Bounds.{Bounds}
-use Rattle.workspace.specs.declared.RenderOptions.{RenderOptions}
-use Rattle.workspace.specs.Meets.{limits}
+use Rattle.solve_workspace.specs.declared.Bounds.{Bounds}
+use Rattle.solve_workspace.specs.declared.RenderOptions.{RenderOptions}
+use Rattle.solve_workspace.specs.Meets.{limits}
 use Rattle.materialize.specs.Rows.{Row}
 use Rattle.render.specs.declared.page.Rendered.{Rendered}
 use Rattle.render.specs.declared.page.Rendered.the-variants.{Page, Refused}

@@ -13,7 +13,7 @@ use Rattle.machine.specs.Model.{Prepared, plan-at}
 use Rattle.machine.specs.Solve.{solve, Solved}
 use Rattle.machine.specs.Materializer.{marks, visit-plan, materialize, Rendered, rendered, render}
 use Rattle.machine.specs.Answer.{paged, answer, answer-of}
-use Rattle.meaning.specs.Materialized.{marks-are}
+use Rattle.machine_right.specs.Materialized.{marks-are}
 
 passes-bind : {A B : Type 0} (b : Bounds) (k : Counts) (m : Prog A) (f : A → Prog B) → Passes b k (m >>= f) → Passes b k m × Passes b (counts-after k m) (f (value m))
 passes-bind b k (ret a) f h = (tt, h)

@@ -16,9 +16,9 @@ use Rattle.stats.specs.declared.SolveStats.{SolveStats}
 use Rattle.spans.specs.declared.AnnotationSpan.{AnnotationSpan}
 use Rattle.spans.specs.declared.Parent.{Parent}
 use Rattle.spans.specs.declared.Parent.the-variants.{Nothing, Span as Inside}
-use Rattle.workspace.specs.declared.Bounds.{Bounds}
-use Rattle.workspace.specs.declared.RenderOptions.{RenderOptions}
-use Rattle.workspace.specs.Meets.{limits, tally}
+use Rattle.solve_workspace.specs.declared.Bounds.{Bounds}
+use Rattle.solve_workspace.specs.declared.RenderOptions.{RenderOptions}
+use Rattle.solve_workspace.specs.Meets.{limits, tally}
 use Rattle.materialize.specs.Rows.{Row}
 use Rattle.render.specs.declared.page.Rendered.{Rendered}
 use Rattle.render.specs.declared.page.Rendered.the-variants.{Page as RowsPage, Refused as RowsRefused}

@@ -12,8 +12,8 @@ use Rattle.answer.specs.Answer.{Settings}
 use Rattle.answer.specs.Page.{RulesPage, Promised, right-page}
 use Rattle.stats.specs.declared.SolveStats.{SolveStats}
 use Rattle.spans.specs.declared.AnnotationSpan.{AnnotationSpan}
-use Rattle.workspace.specs.declared.Bounds.{Bounds}
-use Rattle.workspace.specs.declared.RenderOptions.{RenderOptions}
+use Rattle.solve_workspace.specs.declared.Bounds.{Bounds}
+use Rattle.solve_workspace.specs.declared.RenderOptions.{RenderOptions}
 use Rattle.render.specs.declared.order.Lengths.{Lengths}
 use Rattle.render.specs.Call.{settings}
 use Rattle.printer.specs.declared.Outcome.the-variants.{Page, Refused}

@@ -1,4 +1,4 @@
-// The public call in document 01's forms: the caller lends the statistics record and the list of span records.
+// The public call in document 01's forms: the caller lends the record of counts and the list of span records.
 ghost use mathlib.Core.Path.{_≡_};
 ghost use Prim.Native.Nat.{ℕ, _<_, _≤_};
 ghost use mathlib.Core.List.{[]};
@@ -10,10 +10,10 @@ ghost use Rattle.printer.specs.Printed.{outcome, Within, Printed};
 use cost::ConsumerCost;
 use render::call::render_core;
 use render::page::Rendered;
+use solve_workspace::Bounds;
+use solve_workspace::RenderOptions;
 use spans::AnnotationSpan;
 use stats::SolveStats;
-use workspace::Bounds;
-use workspace::RenderOptions;
 
 // What a call answers; its counts stand in the lent record. Where a size is too small, `needed` is the size that is needed there; else it is 0.
 pub enum Outcome {
@@ -103,18 +103,18 @@ fn render_within(
     tasks: &mut [[u32; 9]],
     results: &mut [[u32; 2]],
     pending: &mut [[u64; 7]],
-    slots: &mut [u64],
+    index: &mut [u64],
     entries: &mut [[u64; 6]],
     kept: &mut [[u64; 6]],
     frontier: &mut [u64],
     plans: &mut [[u32; 3]],
-    stack: &mut [usize],
-    held: &mut [usize],
+    visit: &mut [usize],
+    depth: &mut [usize],
     output: &mut [u8],
     rows: &mut [[u64; 4]],
     records: usize,
 ) -> Rendered
-    ensures { λ r. ⌜ Within (now (file .entry)) options b (lengths (now (nodes .entry)) (now (edges .entry)) (now (choices .entry)) (now (texts .entry)) (now (bytes .entry)) (now (tasks .entry)) (now (results .entry)) (now (pending .entry)) (now (slots .entry)) (now (entries .entry)) (now (kept .entry)) (now (frontier .entry)) (now (plans .entry)) (now (stack .entry)) (now (held .entry)) (now (output .entry)) (now (rows .entry))) records (now (output .entry)) (now (output .exit)) (now (rows .entry)) (now (rows .exit)) r ⌝ }
+    ensures { λ r. ⌜ Within (now (file .entry)) options b (lengths (now (nodes .entry)) (now (edges .entry)) (now (choices .entry)) (now (texts .entry)) (now (bytes .entry)) (now (tasks .entry)) (now (results .entry)) (now (pending .entry)) (now (index .entry)) (now (entries .entry)) (now (kept .entry)) (now (frontier .entry)) (now (plans .entry)) (now (visit .entry)) (now (depth .entry)) (now (output .entry)) (now (rows .entry))) records (now (output .entry)) (now (output .exit)) (now (rows .entry)) (now (rows .exit)) r ⌝ }
 {
     if records < b.spans as usize {
         return Rendered::Refused {
@@ -135,13 +135,13 @@ fn render_within(
         tasks,
         results,
         pending,
-        slots,
+        index,
         entries,
         kept,
         frontier,
         plans,
-        stack,
-        held,
+        visit,
+        depth,
         output,
         rows,
     )
@@ -175,19 +175,19 @@ pub fn render(
     tasks: &mut [[u32; 9]],
     results: &mut [[u32; 2]],
     pending: &mut [[u64; 7]],
-    slots: &mut [u64],
+    index: &mut [u64],
     entries: &mut [[u64; 6]],
     kept: &mut [[u64; 6]],
     frontier: &mut [u64],
     plans: &mut [[u32; 3]],
-    stack: &mut [usize],
-    held: &mut [usize],
+    visit: &mut [usize],
+    depth: &mut [usize],
     output: &mut [u8],
     rows: &mut [[u64; 4]],
     stats: &mut SolveStats,
     spans: &mut [AnnotationSpan],
 ) -> Outcome
-    ensures { λ r. ⌜ Printed (now (file .entry)) options b (lengths (now (nodes .entry)) (now (edges .entry)) (now (choices .entry)) (now (texts .entry)) (now (bytes .entry)) (now (tasks .entry)) (now (results .entry)) (now (pending .entry)) (now (slots .entry)) (now (entries .entry)) (now (kept .entry)) (now (frontier .entry)) (now (plans .entry)) (now (stack .entry)) (now (held .entry)) (now (output .entry)) (now (rows .entry))) (now (output .entry)) (now (output .exit)) (now (spans .entry)) (now (spans .exit)) (now (stats .exit)) r ⌝ }
+    ensures { λ r. ⌜ Printed (now (file .entry)) options b (lengths (now (nodes .entry)) (now (edges .entry)) (now (choices .entry)) (now (texts .entry)) (now (bytes .entry)) (now (tasks .entry)) (now (results .entry)) (now (pending .entry)) (now (index .entry)) (now (entries .entry)) (now (kept .entry)) (now (frontier .entry)) (now (plans .entry)) (now (visit .entry)) (now (depth .entry)) (now (output .entry)) (now (rows .entry))) (now (output .entry)) (now (output .exit)) (now (spans .entry)) (now (spans .exit)) (now (stats .exit)) r ⌝ }
 {
     let a = render_within(
         file,
@@ -201,13 +201,13 @@ pub fn render(
         tasks,
         results,
         pending,
-        slots,
+        index,
         entries,
         kept,
         frontier,
         plans,
-        stack,
-        held,
+        visit,
+        depth,
         output,
         rows,
         spans.len(),

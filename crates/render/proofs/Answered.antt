@@ -1,19 +1,18 @@
 -- Laws for the answers by value.
-use mathlib.Core.Path.{_≡_, refl, sym, ap, ap₂, _∙_}
+use mathlib.Core.Path.{_≡_, sym, ap, ap₂, _∙_}
 use Prim.Native.Nat.{ℕ}
 use Rattle.cost.specs.declared.ConsumerCost.{ConsumerCost}
 use Rattle.cost.specs.declared.Reason.{Reason}
 use Rattle.cost.specs.declared.Reason.the-variants.{Column, Indent, Overflow, Burden}
 use Rattle.machine.specs.Events.{number}
 use Rattle.stats.specs.declared.SolveStats.{SolveStats}
-use Rattle.workspace.specs.declared.Why.{Why}
-use Rattle.workspace.specs.declared.Why.the-variants.{Domain}
-use Rattle.workspace.specs.Meets.{reason}
+use Rattle.solve_workspace.specs.declared.Why.{Why}
+use Rattle.solve_workspace.specs.declared.Why.the-variants.{Domain}
+use Rattle.solve_workspace.specs.Meets.{reason}
 use Rattle.materialize.specs.Answer.{why-of}
 use Rattle.materialize.specs.declared.Exhausted.{Exhausted}
 use Rattle.materialize.specs.declared.Measured.{Measured}
 use Rattle.materialize.specs.declared.Measured.the-variants.{Page as Fitting, Refused as Lacking}
-use Rattle.render.specs.declared.page.Rendered.{Rendered}
 use Rattle.render.specs.declared.page.Rendered.the-variants.{Page, Refused}
 use Rattle.render.specs.Rendered.{with-counts, shown}
 

@@ -4,12 +4,12 @@ use mathlib.Core.List.{List}
 use Prim.Native.Nat.{ℕ}
 use native.Mathlib.Omega.{arith}
 use lib.ListN.{take}
-use Rattle.tables.specs.Tables.{Tables}
-use Rattle.form.specs.declared.fill.Counts.{Counts}
-use Rattle.form.specs.Form.{tablesOf, countsOf, Holds}
-use Rattle.encode.specs.Encode.{lengths}
-use Rattle.encode.specs.Fields.{Bytes}
-use Rattle.encode.specs.Trips.{encoded}
+use Rattle.file_tables.specs.Tables.{Tables}
+use Rattle.file_form.specs.declared.fill.Counts.{Counts}
+use Rattle.file_form.specs.Form.{tablesOf, countsOf, Holds}
+use Rattle.file_encode.specs.Encode.{lengths}
+use Rattle.file_encode.specs.Fields.{Bytes}
+use Rattle.file_encode.specs.Trips.{encoded}
 use Rattle.prepare.specs.declared.read.Answer.{Answer as FileAnswer}
 use Rattle.prepare.specs.declared.read.Answer.the-variants.{Accepted, Refused}
 use Rattle.prepare.specs.File.{Means, Reads, order, refused, accepted}
@@ -18,10 +18,10 @@ use Rattle.prepare.proofs.Reading.{held-is}
 use Rattle.machine.specs.Events.{no-counts}
 use Rattle.machine.specs.Answer.{Answer, refused as refusal, answer}
 use Rattle.answer.specs.Answer.{Ordered, Answers, out-of-order, wrong-file, laid-out}
-use Rattle.workspace.specs.declared.Bounds.{Bounds}
-use Rattle.workspace.specs.declared.RenderOptions.{RenderOptions}
-use Rattle.workspace.specs.Meets.{limits}
-use Rattle.workspace.specs.Reading.{rules, prepared}
+use Rattle.solve_workspace.specs.declared.Bounds.{Bounds}
+use Rattle.solve_workspace.specs.declared.RenderOptions.{RenderOptions}
+use Rattle.solve_workspace.specs.Meets.{limits}
+use Rattle.solve_workspace.specs.Reading.{rules, prepared}
 use Rattle.materialize.specs.Rows.{Row}
 use Rattle.render.specs.declared.page.Rendered.{Rendered}
 use Rattle.render.specs.declared.order.Lengths.{Lengths}

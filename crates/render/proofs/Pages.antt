@@ -2,19 +2,19 @@
 use mathlib.Core.Path.{_≡_, refl, sym, ap, ap₂, _∙_, subst}
 use mathlib.Core.Option.{Option, none, some}
 use mathlib.Core.List.{List, [], _∷_, _++_, map}
-use Prim.Native.Nat.{ℕ, _≤_, _<_}
+use Prim.Native.Nat.{ℕ, _<_}
 use native.Mathlib.Omega.{arith}
 use lib.ListN.{length, take, drop, getD, length-append, length-drop, length-map, List·getD-append}
 use lib.Seq.{take-append-seam}
 use Rattle.cost.specs.Value.{value}
 use Rattle.layout.specs.Layout.{Plan, page}
 use Rattle.layout.specs.Spans.{Span, spans}
-use Rattle.machine.specs.Events.{Prog, ret, _>>_, Out, done, stop, run}
+use Rattle.machine.specs.Events.{ret, _>>_, Out, run}
 use Rattle.machine.specs.Programs.{and-then, run-bind}
 use Rattle.machine.specs.Materializer.{Rendered as Sheet, materialize, rendered}
-use Rattle.machine.specs.Answer.{Answer, paged, answer-of}
-use Rattle.workspace.specs.declared.Bounds.{Bounds}
-use Rattle.workspace.specs.Meets.{limits, tally}
+use Rattle.machine.specs.Answer.{paged, answer-of}
+use Rattle.solve_workspace.specs.declared.Bounds.{Bounds}
+use Rattle.solve_workspace.specs.Meets.{limits, tally}
 use Rattle.materialize.specs.Rows.{Row, row-of, parent-word, span-rows, Fits}
 use Rattle.materialize.specs.Answer.{Agrees, Small, Lent, Materialized, told, over}
 use Rattle.materialize.specs.declared.Capacity.{Capacity}
@@ -22,7 +22,7 @@ use Rattle.materialize.specs.declared.Measured.{Measured}
 use Rattle.materialize.specs.declared.Measured.the-variants.{Page as Fitting, Refused as Lacking}
 use Rattle.solve.specs.declared.SolvedCore.{SolvedCore}
 use Rattle.render.specs.declared.page.Rendered.{Rendered}
-use Rattle.render.specs.Rendered.{parent-of, span-of, meant, Front, Stands, with-counts, shown, capacity, PageRoom, Paged}
+use Rattle.render.specs.Rendered.{parent-of, span-of, Front, with-counts, shown, capacity, PageRoom, Paged}
 
 -- ---- spans are read back from their rows
 
@@ -60,10 +60,10 @@ unaltered was is e = record { within = omega arith; past = e }
 pub page-lent : {b : Bounds} (q : Capacity) {st he ou : List ℕ} {ro : List Row} → q ≡ capacity b → Small q → PageRoom b st he ou ro → Lent q st he ou ro
 page-lent {b} q e z r = record {
   small = z;
-  stack-lent = let g : q .visit ≡ b .visit = ap (λ (x : Capacity). x .visit) e in omega (arith, g, r .stack-lent);
-  held-lent = let g : q .depth ≡ b .depth = ap (λ (x : Capacity). x .depth) e in omega (arith, g, r .held-lent);
+  visit-lent = let g : q .visit ≡ b .visit = ap (λ (x : Capacity). x .visit) e in omega (arith, g, r .visit-lent);
+  depth-lent = let g : q .depth ≡ b .depth = ap (λ (x : Capacity). x .depth) e in omega (arith, g, r .depth-lent);
   output-lent = let g : q .output ≡ b .output = ap (λ (x : Capacity). x .output) e in omega (arith, g, r .output-lent);
-  spans-lent = let g : q .spans ≡ b .spans = ap (λ (x : Capacity). x .spans) e in omega (arith, g, r .rows-lent);
+  spans-lent = let g : q .spans ≡ b .spans = ap (λ (x : Capacity). x .spans) e in omega (arith, g, r .spans-lent);
 }
 
 module _ (b : Bounds) (c : SolvedCore) (p : Plan) (out₀ out : List ℕ) (rows₀ rows : List Row) where

@@ -1,10 +1,10 @@
 -- The solver visits nothing: its runs end with the visits that they began with.
-use mathlib.Core.Path.{_≡_, refl, sym, ap, _∙_}
+use mathlib.Core.Path.{_≡_, refl, ap, _∙_}
 use mathlib.Core.Bool.{Bool, true, false}
 use mathlib.Core.Option.{Option, none, some}
-use mathlib.Core.List.{List, [], _∷_, map}
+use mathlib.Core.List.{List, [], _∷_}
 use Prim.Native.Nat.{ℕ, zero, suc, _+_, _-_}
-use lib.ListN.{length, take, drop, getD}
+use lib.ListN.{length, take, drop}
 use Rattle.cost.specs.Cost.{Cost}
 use Rattle.memo.specs.declared.MemoKey.{MemoKey}
 use Rattle.memo.specs.declared.CandidateRange.{CandidateRange}
@@ -15,8 +15,8 @@ use Rattle.layout.specs.Rules.{Rules}
 use Rattle.layout.specs.Table.{Node, Empty, Break, HardLine, Text, Seq, Fill, Group, Align, Nest, Choice, Annotate, Penalty}
 use Rattle.machine.specs.Events.{Bounds, Counts, Prog, ret, emit, _>>=_, Out, done, stop, run, counted}
 use Rattle.machine.specs.Events.{Event, Need, Within, Hit, Miss, Generated, Visit, Pruned, Peak, Entries, PlanNodes, Never}
-use Rattle.machine.specs.Programs.{value, counts-after, done-is}
-use Rattle.machine.specs.Model.{Prepared, ExactChoice, children, PlanNode, Candidate, Scratch, no-candidate, within-range, memo-key, State, blank-state, Got}
+use Rattle.machine.specs.Programs.{counts-after, done-is}
+use Rattle.machine.specs.Model.{Prepared, ExactChoice, PlanNode, Candidate, Scratch, within-range, memo-key, State, blank-state}
 use Rattle.machine.specs.Model.{Task, Eval, CompleteAlias, CompleteUnion, CompleteChoiceSet, CompleteAnnotate, CompletePenalty, ContinueSequence, CompleteSequenceRight}
 use Rattle.machine.specs.Solver.{push-exact-task, push-exact-result, push-pending, popped, checked-add, present, present-all, begin-builder, finish-builder, singleton, present-range, union-ranges, present-wrapped, wrap-range, memo-insert, complete-node, push-joined, build-pending}
 use Rattle.machine.specs.Solver.{checked-text, push-gaps, fill-boundary, push-child, complete-singleton, begin-empty, begin-text, begin-newline, begin-sequence, begin-union, begin-group, begin-nest, skip-choices, push-alternatives, begin-choice, begin-kind, begin-known, begin-node}

@@ -6,18 +6,18 @@ use Prim.Native.Nat.{ℕ, zero, suc, _<_}
 use native.Mathlib.Omega.{arith}
 use native.Mathlib.Decide.{decLt}
 use lib.ListN.{length, List·getD-eq-default}
-use Rattle.tables.specs.Tables.{Tables, kind, first, second, node-row}
+use Rattle.file_tables.specs.Tables.{Tables, kind, first, second, node-row}
 use Rattle.layout.specs.Table.{Text}
-use Rattle.form.specs.declared.fill.Counts.{Counts}
-use Rattle.form.specs.Form.{tablesOf}
-use Rattle.encode.specs.Fields.{Bytes}
-use Rattle.encode.specs.Trips.{encoded, tables-right, texts-inside}
-use Rattle.rules.specs.References.{References}
-use Rattle.rules.specs.Judged.{tables}
+use Rattle.file_form.specs.declared.fill.Counts.{Counts}
+use Rattle.file_form.specs.Form.{tablesOf}
+use Rattle.file_encode.specs.Fields.{Bytes}
+use Rattle.file_encode.specs.Trips.{encoded, tables-right, texts-inside}
+use Rattle.file_checks.specs.References.{References}
+use Rattle.file_checks.specs.Judged.{tables}
 use Rattle.prepare.specs.declared.read.Answer.the-variants.{Accepted}
 use Rattle.prepare.specs.File.{Means}
 use Rattle.prepare.specs.Laws.{accepted-well}
-use Rattle.reading.specs.Reading.{node-of-kind, node-of-row, prepared}
+use Rattle.machine_input.specs.Reading.{node-of-kind, node-of-row, prepared}
 use Rattle.solve.specs.Accepts.{accepts}
 use Rattle.solve.specs.Numbered.{TextsBelow}
 use Rattle.answer.specs.Ready.{means-ready}

@@ -5,27 +5,27 @@ use Prim.Native.Nat.{ℕ, _≤_}
 use native.Mathlib.Omega.{arith}
 use lib.ListN.{length, take}
 use lib.Seq.{length-take-le}
-use Rattle.encode.specs.Fields.{Bytes}
-use Rattle.form.specs.declared.fill.Counts.{Counts}
+use Rattle.file_encode.specs.Fields.{Bytes}
+use Rattle.file_form.specs.declared.fill.Counts.{Counts}
 use Rattle.prepare.specs.declared.read.Answer.{Answer as FileAnswer}
 use Rattle.prepare.specs.declared.read.Answer.the-variants.{Accepted, Refused as FileRefused}
-use Rattle.prepare.specs.File.{Lent, Reads}
+use Rattle.prepare.specs.File.{Reads}
 use Rattle.memo.specs.Sizes.{SlotsFor}
 use Rattle.machine.specs.Events.{no-counts}
 use Rattle.machine.specs.Answer.{Answer, refused}
 use Rattle.answer.specs.Answer.{Answers}
 use Rattle.answer.specs.Demand.{promised, only-page}
 use Rattle.stats.specs.declared.SolveStats.{SolveStats}
-use Rattle.workspace.specs.declared.Bounds.{Bounds}
-use Rattle.workspace.specs.declared.RenderOptions.{RenderOptions}
-use Rattle.workspace.specs.Meets.{limits}
-use Rattle.workspace.specs.Reading.{rules, prepared}
+use Rattle.solve_workspace.specs.declared.Bounds.{Bounds}
+use Rattle.solve_workspace.specs.declared.RenderOptions.{RenderOptions}
+use Rattle.solve_workspace.specs.Meets.{limits}
+use Rattle.solve_workspace.specs.Reading.{rules, prepared}
 use Rattle.materialize.specs.Rows.{Row}
 use Rattle.solve.specs.Accepted.{MemoRoom}
 use Rattle.render.specs.declared.page.Rendered.{Rendered}
 use Rattle.render.specs.declared.page.Rendered.the-variants.{Refused}
 use Rattle.render.specs.declared.order.Lengths.{Lengths}
-use Rattle.render.specs.Order.{TablesLent, InOrder}
+use Rattle.render.specs.Order.{InOrder}
 use Rattle.render.specs.Rendered.{meant, Stands}
 use Rattle.render.specs.Call.{settings, Rendering, Laid, MemoHolding, tables-held}
 use Rattle.render.proofs.Ordered.{slots-single}
@@ -40,15 +40,6 @@ slots-there {b} {n = n} h k = omega (arith, slots-single (b .memo) n (h .slots-f
 
 pub memo-room : {b : Bounds} {ss : List ℕ} {es : List Row} {n : ℕ} → MemoHolding b ss es → SlotsFor (b .memo) n → MemoRoom b (take n ss) es
 memo-room {ss = ss} {n = n} h k = record { slots = rw (length-take-le n ss (slots-there h k)) k; entries = h .entries-in }
-
-pub tables-lent : {nodes edges choices texts bytes : ℕ} {l : Lengths} → TablesLent l → l .nodes ≡ nodes → l .edges ≡ edges → l .choices ≡ choices → l .texts ≡ texts → l .bytes ≡ bytes → Lent nodes edges choices texts bytes
-tables-lent h a b c d e = record {
-  nodes-lent = omega (arith, h .nodes, a);
-  edges-lent = omega (arith, h .edges, b);
-  choices-lent = omega (arith, h .choices, c);
-  texts-lent = omega (arith, h .texts, d);
-  bytes-lent = omega (arith, h .bytes, e);
-}
 
 -- ---- the whole promise
 

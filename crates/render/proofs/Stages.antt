@@ -5,7 +5,7 @@ use Prim.Native.Nat.{ℕ}
 use native.Mathlib.Omega.{arith}
 use lib.ListN.{getD}
 use Rattle.cost.specs.Value.{value}
-use Rattle.tables.specs.Tables.{Tables}
+use Rattle.file_tables.specs.Tables.{Tables}
 use Rattle.layout.specs.Layout.{Plan, blank}
 use Rattle.layout.specs.Rules.{Rules}
 use Rattle.layout.specs.Table.{Table}
@@ -19,11 +19,11 @@ use Rattle.machine.specs.Model.{Prepared, layout-of, layouts-after, plan-at}
 use Rattle.machine.specs.Solve.{Solved, solve}
 use Rattle.machine.specs.Materializer.{Rendered as Sheet, materialize, rendered, render}
 use Rattle.machine.specs.Answer.{answer, answer-of}
-use Rattle.workspace.specs.declared.Bounds.{Bounds}
-use Rattle.workspace.specs.declared.Why.{Why}
-use Rattle.workspace.specs.Meets.{limits, tally}
-use Rattle.workspace.specs.Rows.{Row, node-of}
-use Rattle.workspace.specs.Reading.{prepared}
+use Rattle.solve_workspace.specs.declared.Bounds.{Bounds}
+use Rattle.solve_workspace.specs.declared.Why.{Why}
+use Rattle.solve_workspace.specs.Meets.{limits, tally}
+use Rattle.solve_workspace.specs.Rows.{Row, node-of}
+use Rattle.solve_workspace.specs.Reading.{prepared}
 use Rattle.stats.specs.declared.SolveStats.{SolveStats}
 use Rattle.materialize.specs.Texts.{layout}
 use Rattle.solve.specs.declared.SolvedCore.{SolvedCore}

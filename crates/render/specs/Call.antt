@@ -3,11 +3,11 @@ use mathlib.Core.Path.{_≡_}
 use mathlib.Core.List.{List, []}
 use Prim.Native.Nat.{ℕ, _≤_}
 use lib.ListN.{length}
-use Rattle.tables.specs.Tables.{Tables}
+use Rattle.file_tables.specs.Tables.{Tables}
 use Rattle.layout.specs.Rules.{Rules}
-use Rattle.form.specs.declared.fill.Counts.{Counts}
-pub use Rattle.form.specs.Form.{tables-held}
-use Rattle.rules.specs.Judged.{tables}
+use Rattle.file_form.specs.declared.fill.Counts.{Counts}
+pub use Rattle.file_form.specs.Form.{tables-held}
+use Rattle.file_checks.specs.Judged.{tables}
 use Rattle.memo.specs.Sizes.{SlotsFor}
 use Rattle.machine.specs.Events.{Counts as Tally}
 use Rattle.machine.specs.Model.{Prepared}
@@ -16,10 +16,10 @@ use Rattle.machine.specs.Answer.{Answer, paged, answer}
 use Rattle.machine.specs.Larger.{Larger}
 use Rattle.answer.specs.Answer.{Settings, Answers}
 use Rattle.answer.specs.Page.{Promised}
-use Rattle.workspace.specs.declared.Bounds.{Bounds}
-use Rattle.workspace.specs.declared.RenderOptions.{RenderOptions}
-use Rattle.workspace.specs.Meets.{limits}
-use Rattle.workspace.specs.Reading.{prepared}
+use Rattle.solve_workspace.specs.declared.Bounds.{Bounds}
+use Rattle.solve_workspace.specs.declared.RenderOptions.{RenderOptions}
+use Rattle.solve_workspace.specs.Meets.{limits}
+use Rattle.solve_workspace.specs.Reading.{prepared}
 use Rattle.materialize.specs.Rows.{Row}
 use Rattle.materialize.specs.Texts.{InBytes}
 use Rattle.solve.specs.Accepted.{Accepted}
@@ -73,7 +73,7 @@ pub record MemoHolding (b : Bounds) (ss : List ℕ) (es : List Row) : Type 0 whe
   pub slots-in : slots-for ≤ length ss
 
 abbrev pub lengths : List (List ℕ) → List ℕ → List ℕ → List (List ℕ) → List ℕ → List Row → List Row → List Row → List ℕ → List Row → List Row → List ℕ → List Row → List ℕ → List ℕ → List ℕ → List Row → Lengths
-lengths nodes edges choices texts bytes tasks results pending slots entries kept frontier plans stack held output rows = record {
+lengths nodes edges choices texts bytes tasks results pending index entries kept frontier plans visit depth output spans = record {
   nodes = length nodes;
   edges = length edges;
   choices = length choices;
@@ -82,13 +82,13 @@ lengths nodes edges choices texts bytes tasks results pending slots entries kept
   tasks = length tasks;
   results = length results;
   pending = length pending;
-  slots = length slots;
+  index = length index;
   entries = length entries;
   kept = length kept;
   frontier = length frontier;
   plans = length plans;
-  visit = length stack;
-  held = length held;
+  visit = length visit;
+  depth = length depth;
   output = length output;
-  spans = length rows;
+  spans = length spans;
 }

@@ -1,33 +1,26 @@
 -- Document 01, refusal 1 (order): width 0, policy above 1, or a lent slice shorter than its size. docs/MEMORY.md has the words an item takes.
 use Prim.Native.Nat.{ℕ, _*_, _≤_, _<_}
 use Rattle.memo.specs.Sizes.{SlotsFor}
-use Rattle.workspace.specs.declared.Bounds.{Bounds}
-use Rattle.workspace.specs.declared.RenderOptions.{RenderOptions}
+pub use Rattle.prepare.specs.File.{TablesLent}
+use Rattle.solve_workspace.specs.declared.Bounds.{Bounds}
+use Rattle.solve_workspace.specs.declared.RenderOptions.{RenderOptions}
 use Rattle.render.specs.declared.order.Lengths.{Lengths}
 
 pub record OptionsRight (o : RenderOptions) : Type 0 where
   pub width : 0 < o .width
   pub policy : o .policy ≤ 1
 
--- a file's tables are lent at their limits
-pub record TablesLent (l : Lengths) : Type 0 where
-  pub nodes : 4096 ≤ l .nodes
-  pub edges : 16384 ≤ l .edges
-  pub choices : 16384 ≤ l .choices
-  pub texts : 4096 ≤ l .texts
-  pub bytes : 65536 ≤ l .bytes
-
 pub record StacksLent (b : Bounds) (l : Lengths) : Type 0 where
   pub tasks : b .stack ≤ l .tasks
   pub results : b .stack ≤ l .results
   pub pending : b .stack ≤ l .pending
 
--- the memo has as many slots as its size takes
+-- the memo's index has as many slots as its size takes
 pub record MemoLent (b : Bounds) (l : Lengths) : Type 0 where
   pub entries : b .memo ≤ l .entries
   pub slots-for : ℕ
   pub is : SlotsFor (b .memo) slots-for
-  pub slots : slots-for ≤ l .slots
+  pub index : slots-for ≤ l .index
 
 pub record StoresLent (b : Bounds) (l : Lengths) : Type 0 where
   pub kept : b .kept ≤ l .kept
@@ -36,7 +29,7 @@ pub record StoresLent (b : Bounds) (l : Lengths) : Type 0 where
 
 pub record PageLent (b : Bounds) (l : Lengths) : Type 0 where
   pub visit : b .visit ≤ l .visit
-  pub depth : b .depth ≤ l .held
+  pub depth : b .depth ≤ l .depth
   pub output : b .output ≤ l .output
   pub spans : b .spans ≤ l .spans
 
@@ -48,6 +41,6 @@ pub record SolverLent (b : Bounds) (l : Lengths) : Type 0 where
 -- nothing of refusal 1
 pub record InOrder (o : RenderOptions) (b : Bounds) (l : Lengths) : Type 0 where
   pub options : OptionsRight o
-  pub tables : TablesLent l
+  pub tables : TablesLent (l .nodes) (l .edges) (l .choices) (l .texts) (l .bytes)
   pub solver : SolverLent b l
   pub page : PageLent b l

@@ -1,7 +1,7 @@
 -- What the answer of a call says, in the machine's words, and what stands in output and spans afterwards (document 01, "Calls").
 use mathlib.Core.Path.{_≡_}
 use mathlib.Core.Option.{Option, none, some}
-use mathlib.Core.List.{List, [], _∷_, _++_, map}
+use mathlib.Core.List.{List, [], _++_, map}
 use Prim.Native.Nat.{ℕ, zero, suc, _≤_, _<_}
 use lib.ListN.{length, take, drop, getD}
 use Rattle.cost.specs.Value.{value}
@@ -12,9 +12,9 @@ use Rattle.machine.specs.Events.{number, ret, _>>_, run}
 use Rattle.machine.specs.Materializer.{materialize, rendered}
 use Rattle.machine.specs.Answer.{Answer, paged, refused, answer-of}
 use Rattle.stats.specs.declared.SolveStats.{SolveStats}
-use Rattle.workspace.specs.declared.Bounds.{Bounds}
-use Rattle.workspace.specs.declared.Why.{Why}
-use Rattle.workspace.specs.Meets.{limits, tally, reason}
+use Rattle.solve_workspace.specs.declared.Bounds.{Bounds}
+use Rattle.solve_workspace.specs.declared.Why.{Why}
+use Rattle.solve_workspace.specs.Meets.{limits, tally, reason}
 use Rattle.materialize.specs.Rows.{Row, Fits}
 use Rattle.materialize.specs.Answer.{why-of}
 use Rattle.materialize.specs.declared.Capacity.{Capacity}
@@ -92,11 +92,11 @@ abbrev pub capacity : Bounds → Capacity
 capacity b = record { visit = b .visit; depth = b .depth; output = b .output; spans = b .spans; «visit_limit» = b .«visit_limit» }
 
 -- memory for the materializer is as long as its sizes say
-pub record PageRoom (b : Bounds) (stack held output : List ℕ) (rows : List Row) : Type 0 where
-  pub stack-lent : b .visit ≤ length stack
-  pub held-lent : b .depth ≤ length held
+pub record PageRoom (b : Bounds) (visit depth output : List ℕ) (spans : List Row) : Type 0 where
+  pub visit-lent : b .visit ≤ length visit
+  pub depth-lent : b .depth ≤ length depth
   pub output-lent : b .output ≤ length output
-  pub rows-lent : b .spans ≤ length rows
+  pub spans-lent : b .spans ≤ length spans
 
 -- the answer is the machine's, once the plan of layout p is chosen
 pub record Paged (b : Bounds) (c : SolvedCore) (p : Plan) (output₀ output : List ℕ) (rows₀ rows : List Row) (r : Rendered) : Type 0 where

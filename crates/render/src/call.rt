@@ -1,10 +1,8 @@
 // A call in document 01's order: 1, the file, the solver, the materializer.
-ghost use mathlib.Core.Path.{_≡_};
-ghost use lib.ListN.{length};
-ghost use Rattle.rules.specs.Judged.{tables};
-ghost use Rattle.reading.specs.Reading.{prepared};
-ghost use Rattle.workspace.specs.Reading.{rules};
-ghost use Rattle.execute.specs.Turn.{Room};
+ghost use Rattle.file_checks.specs.Judged.{tables};
+ghost use Rattle.machine_input.specs.Reading.{prepared};
+ghost use Rattle.solve_workspace.specs.Reading.{rules};
+ghost use Rattle.solve_execute.specs.Turn.{Room};
 ghost use Rattle.solve.specs.Accepted.{MemoRoom};
 ghost use Rattle.render.specs.Order.{InOrder};
 ghost use Rattle.render.specs.Rendered.{PageRoom};
@@ -14,16 +12,16 @@ use crate::order::in_order;
 use crate::page::Rendered;
 use crate::page::page_of;
 use crate::page::solver_refused;
-use form::fill::Counts;
+use file_form::fill::Counts;
+use file_tables::NodeId;
+use file_tables::TextId;
 use prepare::read::Answer;
 use prepare::read::read_lent;
 use solve::Solution;
 use solve::solve;
+use solve_workspace::Bounds;
+use solve_workspace::RenderOptions;
 use stats::SolveStats;
-use tables::NodeId;
-use tables::TextId;
-use workspace::Bounds;
-use workspace::RenderOptions;
 
 // The solver, then the materializer, on the tables of an accepted file.
 fn lay_out(
@@ -39,18 +37,18 @@ fn lay_out(
     tasks: &mut [[u32; 9]],
     results: &mut [[u32; 2]],
     pending: &mut [[u64; 7]],
-    slots: &mut [u64],
+    index: &mut [u64],
     entries: &mut [[u64; 6]],
     kept: &mut [[u64; 6]],
     frontier: &mut [u64],
     plans: &mut [[u32; 3]],
-    stack: &mut [usize],
-    held: &mut [usize],
+    visit: &mut [usize],
+    depth: &mut [usize],
     output: &mut [u8],
-    rows: &mut [[u64; 4]],
+    spans: &mut [[u64; 4]],
 ) -> Rendered
-    requires { ⌜ Room b (now tasks) (now results) (now pending) (now frontier) (now kept) (now plans) × MemoRoom b (now slots) (now entries) × Readied (tables (now nodes) (now edges) (now choices) (now texts) (now bytes) 0 (root .0) (space .0)) × PageRoom b (now stack) (now held) (now output) (now rows) ⌝ }
-    ensures { λ r. ⌜ Laid b (rules options) (prepared (tables (now (nodes .entry)) (now (edges .entry)) (now (choices .entry)) (now (texts .entry)) (now (bytes .entry)) 0 (root .0) (space .0))) (now (output .entry)) (now (output .exit)) (now (rows .entry)) (now (rows .exit)) r ⌝ }
+    requires { ⌜ Room b (now tasks) (now results) (now pending) (now frontier) (now kept) (now plans) × MemoRoom b (now index) (now entries) × Readied (tables (now nodes) (now edges) (now choices) (now texts) (now bytes) 0 (root .0) (space .0)) × PageRoom b (now visit) (now depth) (now output) (now spans) ⌝ }
+    ensures { λ r. ⌜ Laid b (rules options) (prepared (tables (now (nodes .entry)) (now (edges .entry)) (now (choices .entry)) (now (texts .entry)) (now (bytes .entry)) 0 (root .0) (space .0))) (now (output .entry)) (now (output .exit)) (now (spans .entry)) (now (spans .exit)) r ⌝ }
 {
     let a = solve(
         options,
@@ -64,7 +62,7 @@ fn lay_out(
         tasks,
         results,
         pending,
-        slots,
+        index,
         entries,
         frontier,
         kept,
@@ -75,12 +73,12 @@ fn lay_out(
             return solver_refused(why, needed, stats);
         }
         Solution::Found(core) => {
-            return page_of(b, core, plans, texts, bytes, stack, held, output, rows);
+            return page_of(b, core, plans, texts, bytes, visit, depth, output, spans);
         }
     }
 }
 
-// The same on tables that are lent longer than their counts, and an index that is lent longer than the memo's size takes.
+// The same on tables that are lent longer than their counts, and a memo's index that is lent longer than its size takes.
 fn lay_out_held(
     options: RenderOptions,
     b: Bounds,
@@ -93,18 +91,18 @@ fn lay_out_held(
     tasks: &mut [[u32; 9]],
     results: &mut [[u32; 2]],
     pending: &mut [[u64; 7]],
-    slots: &mut [u64],
+    index: &mut [u64],
     entries: &mut [[u64; 6]],
     kept: &mut [[u64; 6]],
     frontier: &mut [u64],
     plans: &mut [[u32; 3]],
-    stack: &mut [usize],
-    held: &mut [usize],
+    visit: &mut [usize],
+    depth: &mut [usize],
     output: &mut [u8],
-    rows: &mut [[u64; 4]],
+    spans: &mut [[u64; 4]],
 ) -> Rendered
-    requires { ⌜ Room b (now tasks) (now results) (now pending) (now frontier) (now kept) (now plans) × MemoHolding b (now slots) (now entries) × Holding n (now nodes) (now edges) (now choices) (now texts) (now bytes) × PageRoom b (now stack) (now held) (now output) (now rows) ⌝ }
-    ensures { λ r. ⌜ Laid b (rules options) (prepared (tables-held n (now (nodes .entry)) (now (edges .entry)) (now (choices .entry)) (now (texts .entry)) (now (bytes .entry)))) (now (output .entry)) (now (output .exit)) (now (rows .entry)) (now (rows .exit)) r ⌝ }
+    requires { ⌜ Room b (now tasks) (now results) (now pending) (now frontier) (now kept) (now plans) × MemoHolding b (now index) (now entries) × Holding n (now nodes) (now edges) (now choices) (now texts) (now bytes) × PageRoom b (now visit) (now depth) (now output) (now spans) ⌝ }
+    ensures { λ r. ⌜ Laid b (rules options) (prepared (tables-held n (now (nodes .entry)) (now (edges .entry)) (now (choices .entry)) (now (texts .entry)) (now (bytes .entry)))) (now (output .entry)) (now (output .exit)) (now (spans .entry)) (now (spans .exit)) r ⌝ }
 {
     let e0 = n.nodes as usize;
     let e1 = n.edges as usize;
@@ -125,15 +123,15 @@ fn lay_out_held(
         tasks,
         results,
         pending,
-        &mut slots[..e5],
+        &mut index[..e5],
         entries,
         kept,
         frontier,
         plans,
-        stack,
-        held,
+        visit,
+        depth,
         output,
-        rows,
+        spans,
     )
 }
 
@@ -150,18 +148,18 @@ fn render_lent(
     tasks: &mut [[u32; 9]],
     results: &mut [[u32; 2]],
     pending: &mut [[u64; 7]],
-    slots: &mut [u64],
+    index: &mut [u64],
     entries: &mut [[u64; 6]],
     kept: &mut [[u64; 6]],
     frontier: &mut [u64],
     plans: &mut [[u32; 3]],
-    stack: &mut [usize],
-    held: &mut [usize],
+    visit: &mut [usize],
+    depth: &mut [usize],
     output: &mut [u8],
-    rows: &mut [[u64; 4]],
+    spans: &mut [[u64; 4]],
 ) -> Rendered
-    requires { ⌜ InOrder options b (lengths (now nodes) (now edges) (now choices) (now texts) (now bytes) (now tasks) (now results) (now pending) (now slots) (now entries) (now kept) (now frontier) (now plans) (now stack) (now held) (now output) (now rows)) ⌝ }
-    ensures { λ r. ⌜ Rendering (now (file .entry)) options b (lengths (now (nodes .entry)) (now (edges .entry)) (now (choices .entry)) (now (texts .entry)) (now (bytes .entry)) (now (tasks .entry)) (now (results .entry)) (now (pending .entry)) (now (slots .entry)) (now (entries .entry)) (now (kept .entry)) (now (frontier .entry)) (now (plans .entry)) (now (stack .entry)) (now (held .entry)) (now (output .entry)) (now (rows .entry))) (now (output .entry)) (now (output .exit)) (now (rows .entry)) (now (rows .exit)) r ⌝ }
+    requires { ⌜ InOrder options b (lengths (now nodes) (now edges) (now choices) (now texts) (now bytes) (now tasks) (now results) (now pending) (now index) (now entries) (now kept) (now frontier) (now plans) (now visit) (now depth) (now output) (now spans)) ⌝ }
+    ensures { λ r. ⌜ Rendering (now (file .entry)) options b (lengths (now (nodes .entry)) (now (edges .entry)) (now (choices .entry)) (now (texts .entry)) (now (bytes .entry)) (now (tasks .entry)) (now (results .entry)) (now (pending .entry)) (now (index .entry)) (now (entries .entry)) (now (kept .entry)) (now (frontier .entry)) (now (plans .entry)) (now (visit .entry)) (now (depth .entry)) (now (output .entry)) (now (spans .entry))) (now (output .entry)) (now (output .exit)) (now (spans .entry)) (now (spans .exit)) r ⌝ }
 {
     let a = read_lent(file, nodes, edges, choices, texts, bytes);
     match a {
@@ -185,21 +183,21 @@ fn render_lent(
                 tasks,
                 results,
                 pending,
-                slots,
+                index,
                 entries,
                 kept,
                 frontier,
                 plans,
-                stack,
-                held,
+                visit,
+                depth,
                 output,
-                rows,
+                spans,
             );
         }
     }
 }
 
-// A file's page, or why there is none. A page goes to the front of `output`, its spans to the front of `rows`. All else that is lent by `&mut` is
+// A file's page, or why there is none. A page goes to the front of `output`, its spans to the front of `spans`. All else that is lent by `&mut` is
 // tables and working memory, which may hold anything before and after.
 pub fn render_core(
     file: &[u8],
@@ -213,17 +211,17 @@ pub fn render_core(
     tasks: &mut [[u32; 9]],
     results: &mut [[u32; 2]],
     pending: &mut [[u64; 7]],
-    slots: &mut [u64],
+    index: &mut [u64],
     entries: &mut [[u64; 6]],
     kept: &mut [[u64; 6]],
     frontier: &mut [u64],
     plans: &mut [[u32; 3]],
-    stack: &mut [usize],
-    held: &mut [usize],
+    visit: &mut [usize],
+    depth: &mut [usize],
     output: &mut [u8],
-    rows: &mut [[u64; 4]],
+    spans: &mut [[u64; 4]],
 ) -> Rendered
-    ensures { λ r. ⌜ Rendering (now (file .entry)) options b (lengths (now (nodes .entry)) (now (edges .entry)) (now (choices .entry)) (now (texts .entry)) (now (bytes .entry)) (now (tasks .entry)) (now (results .entry)) (now (pending .entry)) (now (slots .entry)) (now (entries .entry)) (now (kept .entry)) (now (frontier .entry)) (now (plans .entry)) (now (stack .entry)) (now (held .entry)) (now (output .entry)) (now (rows .entry))) (now (output .entry)) (now (output .exit)) (now (rows .entry)) (now (rows .exit)) r ⌝ }
+    ensures { λ r. ⌜ Rendering (now (file .entry)) options b (lengths (now (nodes .entry)) (now (edges .entry)) (now (choices .entry)) (now (texts .entry)) (now (bytes .entry)) (now (tasks .entry)) (now (results .entry)) (now (pending .entry)) (now (index .entry)) (now (entries .entry)) (now (kept .entry)) (now (frontier .entry)) (now (plans .entry)) (now (visit .entry)) (now (depth .entry)) (now (output .entry)) (now (spans .entry))) (now (output .entry)) (now (output .exit)) (now (spans .entry)) (now (spans .exit)) r ⌝ }
 {
     let l = Lengths {
         nodes: nodes.len(),
@@ -234,15 +232,15 @@ pub fn render_core(
         tasks: tasks.len(),
         results: results.len(),
         pending: pending.len(),
-        slots: slots.len(),
+        index: index.len(),
         entries: entries.len(),
         kept: kept.len(),
         frontier: frontier.len(),
         plans: plans.len(),
-        visit: stack.len(),
-        held: held.len(),
+        visit: visit.len(),
+        depth: depth.len(),
         output: output.len(),
-        spans: rows.len(),
+        spans: spans.len(),
     };
     if !in_order(options, b, l) {
         return Rendered::Refused {
@@ -263,14 +261,14 @@ pub fn render_core(
         tasks,
         results,
         pending,
-        slots,
+        index,
         entries,
         kept,
         frontier,
         plans,
-        stack,
-        held,
+        visit,
+        depth,
         output,
-        rows,
+        spans,
     )
 }

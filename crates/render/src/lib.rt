@@ -1,4 +1,4 @@
-// The public call.
+// The public call on rows of words: refusal 1, then the file, the solver and the materializer.
 pub mod call;
 pub mod order;
 pub mod page;

@@ -1,8 +1,9 @@
 // Refusal 1: what a call is lent is held to its sizes before anything is read.
-ghost use Rattle.rules.specs.Told.{Told};
-ghost use Rattle.render.specs.Order.{OptionsRight, TablesLent, StacksLent, MemoLent, StoresLent, SolverLent, PageLent, InOrder};
-use workspace::Bounds;
-use workspace::RenderOptions;
+ghost use Rattle.file_checks.specs.Told.{Told};
+ghost use Rattle.render.specs.Order.{OptionsRight, StacksLent, MemoLent, StoresLent, SolverLent, PageLent, InOrder};
+use prepare::read::tables_lent;
+use solve_workspace::Bounds;
+use solve_workspace::RenderOptions;
 
 // How many rows or words each lent slice has.
 pub struct Lengths {
@@ -14,13 +15,13 @@ pub struct Lengths {
     pub tasks: usize,
     pub results: usize,
     pub pending: usize,
-    pub slots: usize,
+    pub index: usize,
     pub entries: usize,
     pub kept: usize,
     pub frontier: usize,
     pub plans: usize,
     pub visit: usize,
-    pub held: usize,
+    pub depth: usize,
     pub output: usize,
     pub spans: usize,
 }
@@ -32,24 +33,6 @@ fn options_right(o: RenderOptions) -> bool
         return false;
     }
     o.policy <= 1
-}
-
-fn tables_lent(l: Lengths) -> bool
-    ensures { λ r. ⌜ Told (TablesLent l) r ⌝ }
-{
-    if l.nodes < 4096 {
-        return false;
-    }
-    if l.edges < 16384 {
-        return false;
-    }
-    if l.choices < 16384 {
-        return false;
-    }
-    if l.texts < 4096 {
-        return false;
-    }
-    65536 <= l.bytes
 }
 
 fn stacks_lent(b: Bounds, l: Lengths) -> bool
@@ -71,7 +54,7 @@ fn memo_lent(b: Bounds, l: Lengths) -> bool
     if l.entries < b.memo as usize {
         return false;
     }
-    memo::memo_slots_for(b.memo) <= l.slots
+    memo::memo_slots_for(b.memo) <= l.index
 }
 
 fn stores_lent(b: Bounds, l: Lengths) -> bool
@@ -92,7 +75,7 @@ fn page_lent(b: Bounds, l: Lengths) -> bool
     if l.visit < b.visit as usize {
         return false;
     }
-    if l.held < b.depth as usize {
+    if l.depth < b.depth as usize {
         return false;
     }
     if l.output < b.output as usize {
@@ -120,7 +103,7 @@ pub fn in_order(o: RenderOptions, b: Bounds, l: Lengths) -> bool
     if !options_right(o) {
         return false;
     }
-    if !tables_lent(l) {
+    if !tables_lent(l.nodes, l.edges, l.choices, l.texts, l.bytes) {
         return false;
     }
     if !solver_lent(b, l) {

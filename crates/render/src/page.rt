@@ -2,7 +2,7 @@
 ghost use mathlib.Core.Path.{_≡_};
 ghost use lib.ListN.{length};
 ghost use Rattle.machine.specs.Events.{number};
-ghost use Rattle.workspace.specs.Meets.{reason};
+ghost use Rattle.solve_workspace.specs.Meets.{reason};
 ghost use Rattle.materialize.specs.Texts.{layout, InBytes};
 ghost use Rattle.materialize.specs.Answer.{why-of, Small};
 ghost use Rattle.solve.specs.Outcome.{Arranged};
@@ -13,9 +13,9 @@ use materialize::Exhausted;
 use materialize::Measured;
 use materialize::materialize;
 use solve::SolvedCore;
+use solve_workspace::Bounds;
+use solve_workspace::Why;
 use stats::SolveStats;
-use workspace::Bounds;
-use workspace::Why;
 
 // What a call answers. Where a size is too small, `needed` is the size that is needed there; else it is 0.
 pub enum Rendered {
@@ -128,13 +128,13 @@ pub fn page_of(
     plans: &[[u32; 3]],
     texts: &[[u32; 3]],
     bytes: &[u8],
-    stack: &mut [usize],
-    held: &mut [usize],
+    visit: &mut [usize],
+    depth: &mut [usize],
     output: &mut [u8],
-    rows: &mut [[u64; 4]],
+    spans: &mut [[u64; 4]],
 ) -> Rendered
-    requires { ⌜ PageRoom b (now stack) (now held) (now output) (now rows) × Arranged (length (now texts)) core (now plans) × InBytes (now texts) (now bytes) × (core .stats .visits ≡ 0) ⌝ }
-    ensures { λ r. ⌜ Paged b core (layout (now (plans .entry)) (core .plans) (now (texts .entry)) (now (bytes .entry)) (core .root .0)) (now (output .entry)) (now (output .exit)) (now (rows .entry)) (now (rows .exit)) r ⌝ }
+    requires { ⌜ PageRoom b (now visit) (now depth) (now output) (now spans) × Arranged (length (now texts)) core (now plans) × InBytes (now texts) (now bytes) × (core .stats .visits ≡ 0) ⌝ }
+    ensures { λ r. ⌜ Paged b core (layout (now (plans .entry)) (core .plans) (now (texts .entry)) (now (bytes .entry)) (core .root .0)) (now (output .entry)) (now (output .exit)) (now (spans .entry)) (now (spans .exit)) r ⌝ }
 {
     let capacity = capacity_of(b);
     let count = core.plans;
@@ -146,10 +146,10 @@ pub fn page_of(
         count,
         texts,
         bytes,
-        stack,
-        held,
+        visit,
+        depth,
         output,
-        rows,
+        spans,
         core.root,
     );
     show(cost, stats, m)

@@ -13,10 +13,10 @@ use Rattle.machine.specs.Events.{no-counts, run}
 use Rattle.machine.specs.Programs.{value, done-is}
 use Rattle.machine.specs.Model.{Prepared}
 use Rattle.machine.specs.Solve.{Solved, solve}
-use Rattle.meaning.specs.Ready.{Ready}
-use Rattle.workspace.specs.declared.Bounds.{Bounds}
-use Rattle.workspace.specs.Meets.{limits}
-use Rattle.workspace.specs.Rows.{Row, node-of}
+use Rattle.machine_right.specs.Ready.{Ready}
+use Rattle.solve_workspace.specs.declared.Bounds.{Bounds}
+use Rattle.solve_workspace.specs.Meets.{limits}
+use Rattle.solve_workspace.specs.Rows.{Row, node-of}
 use Rattle.solve.specs.declared.SolvedCore.{SolvedCore}
 use Rattle.solve.specs.declared.Solution.the-variants.{Found}
 use Rattle.solve.specs.Numbered.{Names, NamesFrom, TextsBelow, Rooted}

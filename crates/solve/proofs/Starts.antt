@@ -20,28 +20,28 @@ use Rattle.machine.specs.Programs.{value as value-of}
 use Rattle.machine.specs.Model.{Prepared, Candidate, Scratch, part, range, within-range, memo-key, Task, Eval, State, blank-state, with-tasks, Got, got}
 use Rattle.machine.specs.Solver.{push-exact-task, pop-exact-result}
 use Rattle.machine.specs.Solve.{rest, Solved, best-of, solve-tasks, take-best, solve}
-use Rattle.meaning.specs.Post.{post-value}
-use Rattle.meaning.specs.Fronts.{Front, means}
-use Rattle.meaning.specs.Relations.{All2, nil, cons, all2-length, Some, laid, headed}
-use Rattle.meaning.specs.Typed.{Cont, c-done, c-eval, RangeDen}
-use Rattle.meaning.specs.Ready.{Ready}
-use Rattle.meaning.specs.Sound.{Inv, ResAt}
-use Rattle.meaning.specs.Rest.{Kept}
-use Rattle.meaning.specs.Found.{goal, tasks-end}
-use Rattle.workspace.specs.declared.Bounds.{Bounds}
-use Rattle.workspace.specs.declared.Registers.{Registers}
-use Rattle.workspace.specs.declared.Candidate.{Candidate as Code}
-use Rattle.workspace.specs.declared.Why.{Why}
-use Rattle.workspace.specs.declared.Answer.{Answer}
-use Rattle.workspace.specs.declared.Answer.the-variants.{Go, Stop}
-use Rattle.workspace.specs.Meets.{limits, tally, counts, reason, out, Sound, Meets}
-use Rattle.workspace.specs.Rows.{Row, at, pile, range-of, row-list, candidate-of, candidate, node-of, abs}
-use Rattle.workspace.specs.Frames.{Popped, Memory, no-entry}
-use Rattle.workspace.specs.Frames.{Kept as Stayed}
-use Rattle.workspace.specs.Lent.{WORDS, regs, Held}
-use Rattle.workspace.specs.Stacks.{pop-is}
-use Rattle.builder.specs.Building.{Begun}
-use Rattle.builder.specs.Opening.{begun-abs, begun-held}
+use Rattle.machine_right.specs.Post.{post-value}
+use Rattle.machine_right.specs.Fronts.{Front, means}
+use Rattle.machine_right.specs.Relations.{All2, nil, cons, all2-length, Some, laid, headed}
+use Rattle.machine_right.specs.Typed.{Cont, c-done, c-eval, RangeDen}
+use Rattle.machine_right.specs.Ready.{Ready}
+use Rattle.machine_right.specs.Sound.{Inv, ResAt}
+use Rattle.machine_right.specs.Rest.{Kept}
+use Rattle.machine_right.specs.Found.{goal, tasks-end}
+use Rattle.solve_workspace.specs.declared.Bounds.{Bounds}
+use Rattle.solve_workspace.specs.declared.Registers.{Registers}
+use Rattle.solve_workspace.specs.declared.Candidate.{Candidate as Code}
+use Rattle.solve_workspace.specs.declared.Why.{Why}
+use Rattle.solve_workspace.specs.declared.Reached.{Reached}
+use Rattle.solve_workspace.specs.declared.Reached.the-variants.{Go, Stop}
+use Rattle.solve_workspace.specs.Meets.{limits, tally, counts, reason, out, Sound, Meets}
+use Rattle.solve_workspace.specs.Rows.{Row, at, pile, range-of, row-list, candidate-of, candidate, node-of, abs}
+use Rattle.solve_workspace.specs.Frames.{Popped, Memory, no-entry}
+use Rattle.solve_workspace.specs.Frames.{Kept as Stayed}
+use Rattle.solve_workspace.specs.Lent.{WORDS, regs, Held}
+use Rattle.solve_workspace.specs.Stacks.{pop-is}
+use Rattle.solve_builder.specs.Building.{Begun}
+use Rattle.solve_builder.specs.Opening.{begun-abs, begun-held}
 use Rattle.solve.specs.declared.Solution.the-variants.{Found}
 use Rattle.solve.specs.Accepted.{Typed, MemoRoom, Topped}
 use Rattle.solve.specs.Outcome.{outcome, least-of, with-nodes}
@@ -94,7 +94,7 @@ pub starts : (R : Rules) (P : Prepared) {z : Registers} → Started z → (ts rs
 unfolding solve-tasks
 starts R P h ts rs ps es ks fs ns = ap (λ (S : State). push-exact-task (Eval (memo-key (P .root) 0 0)) S >>= rest R P) (sym (blank-is h ts rs ps es ks fs ns))
 
-pub from-start : {b : Bounds} {z : Registers} {p q : Prog State} {a : Answer} {f : Registers → State} → Started z → p ≡ q → Meets b (counts z) q a f → Meets b no-counts p a f
+pub from-start : {b : Bounds} {z : Registers} {p q : Prog State} {a : Reached} {f : Registers → State} → Started z → p ≡ q → Meets b (counts z) q a f → Meets b no-counts p a f
 from-start {b = b} {z = z} {q = q} {a = a} {f = f} h e m =
     let k : counts z ≡ no-counts = ap counts (h .begun .same) in
     record { is = ap (run (limits b) no-counts) e ∙ subst (λ (j : Counts). run (limits b) j q ≡ out a f) k (m .is); sound = m .sound }
@@ -106,7 +106,7 @@ memory b ss es {z = z} h k m =
     let e : z .memo ≡ 0 = ap (λ (x : Registers). x .memo) (h .begun .same) in
     rw (k .memo, e) (record { index = fresh ss es (m .slots); narrow = no-entry; slots = slots-enough (m .slots); entries = m .entries })
 
-pub typed-start : (R : Rules) (P : Prepared) → Ready P → (q : MemoKey) (b : Bounds) {z : Registers} → Started z → (k : Counts) (ts rs ps es ks : List Row) (fs : List ℕ) (ns : List Row) {a : Answer} {f : Registers → State} {s : Registers}
+pub typed-start : (R : Rules) (P : Prepared) → Ready P → (q : MemoKey) (b : Bounds) {z : Registers} → Started z → (k : Counts) (ts rs ps es ks : List Row) (fs : List ℕ) (ns : List Row) {a : Reached} {f : Registers → State} {s : Registers}
     → Meets b k (push-exact-task (Eval q) (abs z ts rs ps es ks fs ns)) a f → a ≡ Go s → Typed R P (f s)
 unfolding push-exact-task
 typed-start R P K q b h k ts rs ps es ks fs ns {f = f} {s = s} m e =
@@ -138,7 +138,7 @@ topped-as : (R : Rules) (P : Prepared) (D : ℕ → Doc) (F : Front) (s : Regist
 unfolding abs
 topped-as R P D F s ts rs ps es ks fs ns h = top-is R (P .table) D _ _ F rs (s .results) h
 
-pub topped : (R : Rules) (P : Prepared) → Ready P → (b : Bounds) (ts rs ps es ks : List Row) (fs : List ℕ) (ns : List Row) (a : Answer) (s : Registers)
+pub topped : (R : Rules) (P : Prepared) → Ready P → (b : Bounds) (ts rs ps es ks : List Row) (fs : List ℕ) (ns : List Row) (a : Reached) (s : Registers)
     → Meets b no-counts (solve-tasks R P) a (λ z. abs z ts rs ps es ks fs ns) → a ≡ Go s → Sound b s → b .stack ≤ length rs → b .kept ≤ length ks → Topped s rs ks
 topped R P K b ts rs ps es ks fs ns a s m q h lr lk =
     let D = document (P .table) (K .ranked) in
@@ -200,13 +200,13 @@ best-is b R P st s ts rs ps es ks fs ns best e p l c t q =
 
 -- ---- both
 
-pub solved : {b : Bounds} (R : Rules) (P : Prepared) {a : Answer} {f : Registers → State} {s : Registers} {o : Out Solved}
+pub solved : {b : Bounds} (R : Rules) (P : Prepared) {a : Reached} {f : Registers → State} {s : Registers} {o : Out Solved}
     → Meets b no-counts (solve-tasks R P) a f → a ≡ Go s → run (limits b) (counts s) (take-best R P (f s)) ≡ o → run (limits b) no-counts (solve R P) ≡ o
 unfolding solve
 solved {b = b} R P {f = f} m q r =
     run-bind (limits b) no-counts (solve-tasks R P) (take-best R P) ∙ (ap (λ x. and-then (limits b) x (take-best R P)) (m .is ∙ ap (λ x. out x f) q) ∙ r)
 
-pub refused : {b : Bounds} (R : Rules) (P : Prepared) {a : Answer} {f : Registers → State} {s : Registers} {w : Why} {n : ℕ}
+pub refused : {b : Bounds} (R : Rules) (P : Prepared) {a : Reached} {f : Registers → State} {s : Registers} {w : Why} {n : ℕ}
     → Meets b no-counts (solve-tasks R P) a f → a ≡ Stop w n s → (t : SolveStats) → t ≡ s .stats → run (limits b) no-counts (solve R P) ≡ stop (reason w) n (tally t)
 unfolding solve
 refused {b = b} R P {f = f} {w = w} {n = n} m q t e =

@@ -14,30 +14,30 @@ use Rattle.machine.specs.Programs.{value, done-is}
 use Rattle.machine.specs.Model.{Prepared, Candidate, Scratch, Task, State}
 use Rattle.machine.specs.Solver.{step, execute-task}
 use Rattle.machine.specs.Solve.{rest}
-use Rattle.meaning.specs.Post.{post-value}
-use Rattle.meaning.specs.Fronts.{Front}
-use Rattle.meaning.specs.Relations.{All2, all2-length, laid}
-use Rattle.meaning.specs.Typed.{Cont, c-eval, c-alias, c-union, c-set, c-annotate, c-penalty, c-continue, c-right}
-use Rattle.meaning.specs.Ready.{Ready}
-use Rattle.meaning.specs.Sound.{Inv}
-use Rattle.meaning.specs.Step.{step-good}
-use Rattle.meaning.specs.Rest.{rest-step, rest-none}
-use Rattle.meaning.specs.Falls.{left, falls}
-use Rattle.workspace.specs.declared.Bounds.{Bounds}
-use Rattle.workspace.specs.declared.Registers.{Registers}
-use Rattle.workspace.specs.declared.RenderOptions.{RenderOptions}
-use Rattle.workspace.specs.declared.Why.{Why}
-use Rattle.workspace.specs.declared.Answer.{Answer}
-use Rattle.workspace.specs.declared.Answer.the-variants.{Go, Stop}
-use Rattle.workspace.specs.Meets.{limits, counts, out, Sound, Meets, Leads}
-use Rattle.workspace.specs.Rows.{Row, at, pile, task-of, range-of, scratch-of, candidate-of, abs}
-use Rattle.workspace.specs.Frames.{Memory}
-use Rattle.workspace.specs.Lent.{TASKS, WORDS, regs, Held}
-use Rattle.workspace.specs.Reading.{prepared, tables, rules}
-use Rattle.workspace.specs.Runs.{leads-seq, halt}
-use Rattle.workspace.specs.Stacks.{pile-length, row-list-length, with-tasks-to, sound-tasks}
-use Rattle.workspace.specs.Stores.{tasks-stored}
-use Rattle.execute.specs.Turn.{Room, Fits}
+use Rattle.machine_right.specs.Post.{post-value}
+use Rattle.machine_right.specs.Fronts.{Front}
+use Rattle.machine_right.specs.Relations.{All2, all2-length, laid}
+use Rattle.machine_right.specs.Typed.{Cont, c-eval, c-alias, c-union, c-set, c-annotate, c-penalty, c-continue, c-right}
+use Rattle.machine_right.specs.Ready.{Ready}
+use Rattle.machine_right.specs.Sound.{Inv}
+use Rattle.machine_right.specs.Step.{step-good}
+use Rattle.machine_right.specs.Rest.{rest-step, rest-none}
+use Rattle.machine_right.specs.Falls.{left, falls}
+use Rattle.solve_workspace.specs.declared.Bounds.{Bounds}
+use Rattle.solve_workspace.specs.declared.Registers.{Registers}
+use Rattle.solve_workspace.specs.declared.RenderOptions.{RenderOptions}
+use Rattle.solve_workspace.specs.declared.Why.{Why}
+use Rattle.solve_workspace.specs.declared.Reached.{Reached}
+use Rattle.solve_workspace.specs.declared.Reached.the-variants.{Go, Stop}
+use Rattle.solve_workspace.specs.Meets.{limits, counts, out, Sound, Meets, Leads}
+use Rattle.solve_workspace.specs.Rows.{Row, at, pile, task-of, range-of, scratch-of, candidate-of, abs}
+use Rattle.solve_workspace.specs.Frames.{Memory}
+use Rattle.solve_workspace.specs.Lent.{TASKS, WORDS, regs, Held}
+use Rattle.solve_workspace.specs.Reading.{prepared, tables, rules}
+use Rattle.solve_workspace.specs.Runs.{leads-seq, halt}
+use Rattle.solve_workspace.specs.Stacks.{pile-length, row-list-length, with-tasks-to, sound-tasks}
+use Rattle.solve_workspace.specs.Stores.{tasks-stored}
+use Rattle.solve_execute.specs.Turn.{Room, Fits}
 use Rattle.solve.specs.Accepted.{Typed}
 
 -- ---- what a program comes to that the code has gone through
@@ -45,7 +45,7 @@ use Rattle.solve.specs.Accepted.{Typed}
 pub done-value : {A : Type 0} {k j : Counts} {x y : A} → _≡_ {A = Out A} (done k x) (done j y) → x ≡ y
 done-value e = cc
 
-pub value-is : {A : Type 0} {b : Bounds} {k : Counts} {p : Prog A} {a : Answer} {f : Registers → A} {s : Registers} → Meets b k p a f → a ≡ Go s → value p ≡ f s
+pub value-is : {A : Type 0} {b : Bounds} {k : Counts} {p : Prog A} {a : Reached} {f : Registers → A} {s : Registers} → Meets b k p a f → a ≡ Go s → value p ≡ f s
 value-is {b = b} {k = k} {p = p} {f = f} m q = sym (done-value (done-is (limits b) k p (m .is ∙ ap (λ x. out x f) q)))
 
 -- ---- the task on top
@@ -121,7 +121,7 @@ pub record Turned (R : Rules) (P : Prepared) (b : Bounds) (k j : Counts) (S Z : 
   pub less : left R P Z < left R P S
 
 module _ (R : Rules) (P : Prepared) (K : Ready P) (b : Bounds) (g : List ℕ) (w : WORDS ≤ length g) (ts rs ps es ks : List Row) (fs : List ℕ) (ns : List Row) (i : ℕ) (e : at g TASKS ≡ suc i)
-    (t : Typed R P (abs (regs g) ts rs ps es ks fs ns)) (x : Task) (ex : x ≡ task-of (getD ts i [])) {a : Answer} {f : Registers → State}
+    (t : Typed R P (abs (regs g) ts rs ps es ks fs ns)) (x : Task) (ex : x ≡ task-of (getD ts i [])) {a : Reached} {f : Registers → State}
     (m : Meets b (counts (regs (set g TASKS i))) (execute-task R P x (abs (regs (set g TASKS i)) ts rs ps es ks fs ns)) a f) where
   abbrev s : Registers
   s = regs g
@@ -173,7 +173,7 @@ pub record Working (options : RenderOptions) (b : Bounds) (N : List Row) (E C : 
   pub tasks : length ts ≡ length ts₀
   pub results : length rs ≡ length rs₀
   pub pending : length ps ≡ length ps₀
-  pub slots : length ss ≡ length ss₀
+  pub index : length ss ≡ length ss₀
   pub entries : length es ≡ length es₀
   pub frontier : length fs ≡ length fs₀
   pub kept : length ks ≡ length ks₀

@@ -8,13 +8,13 @@ use Rattle.layout.specs.Rules.{Rules}
 use Rattle.layout.specs.Table.{Reads}
 use Rattle.memo.specs.Sizes.{SlotsFor}
 use Rattle.machine.specs.Model.{Prepared, State}
-use Rattle.meaning.specs.Fronts.{Front}
-use Rattle.meaning.specs.Ready.{Ready}
-use Rattle.meaning.specs.Sound.{Inv}
-use Rattle.workspace.specs.declared.Bounds.{Bounds}
-use Rattle.workspace.specs.declared.Registers.{Registers}
-use Rattle.workspace.specs.Rows.{Row, at}
-use Rattle.workspace.specs.Reading.{prepared, tables}
+use Rattle.machine_right.specs.Fronts.{Front}
+use Rattle.machine_right.specs.Ready.{Ready}
+use Rattle.machine_right.specs.Sound.{Inv}
+use Rattle.solve_workspace.specs.declared.Bounds.{Bounds}
+use Rattle.solve_workspace.specs.declared.Registers.{Registers}
+use Rattle.solve_workspace.specs.Rows.{Row, at}
+use Rattle.solve_workspace.specs.Reading.{prepared, tables}
 
 -- the tables of an accepted file; bytes of texts, annotations and root play no part in it, so they are left out
 pub record Accepted (nodes : List Row) (edges choices : List ℕ) (texts : List Row) (space : ℕ) : Type 0 where

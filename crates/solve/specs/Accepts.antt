@@ -5,11 +5,11 @@ use mathlib.Core.List.{List·Memᴰ as In}
 use Prim.Native.Nat.{ℕ}
 use Rattle.layout.specs.Table.{Node, Empty, Break, HardLine, Text, Seq, Fill, Group, Align, Nest, Choice, Annotate, Penalty}
 use Rattle.layout.specs.References.{refers, RightList, two, more}
-use Rattle.tables.specs.Tables.{Tables}
+use Rattle.file_tables.specs.Tables.{Tables}
 use Rattle.machine.specs.Model.{Prepared}
-use Rattle.meaning.specs.Ready.{Ready}
-use Rattle.workspace.specs.Rows.{Row}
-use Rattle.workspace.specs.Reading.{prepared, tables}
+use Rattle.machine_right.specs.Ready.{Ready}
+use Rattle.solve_workspace.specs.Rows.{Row}
+use Rattle.solve_workspace.specs.Reading.{prepared, tables}
 use Rattle.solve.specs.Accepted.{Accepted}
 
 module _ (N : List Row) (E C : List ℕ) (X : List Row) (space : ℕ) where

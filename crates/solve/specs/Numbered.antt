@@ -6,8 +6,8 @@ use lib.ListN.{length}
 use Rattle.layout.specs.Table.{Text}
 use Rattle.machine.specs.Model.{Prepared, PlanNode, PlanEmpty, PlanText, PlanNewline, PlanConcat, PlanAnnotate, PlanPenalty, PendingPlan, Existing, Made, Candidate, Scratch, State}
 use Rattle.machine.specs.Solve.{Solved}
-use Rattle.meaning.specs.Relations.{Some}
-use Rattle.meaning.specs.Sound.{Each}
+use Rattle.machine_right.specs.Relations.{Some}
+use Rattle.machine_right.specs.Sound.{Each}
 
 -- texts below t, plans below n
 abbrev pub Names : ℕ → ℕ → PlanNode → Type 0

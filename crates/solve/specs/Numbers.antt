@@ -30,17 +30,17 @@ use Rattle.machine.specs.Solver.{push-exact-task, push-exact-result, push-pendi
 use Rattle.machine.specs.Solver.{checked-text, push-gaps, fill-boundary, push-child, complete-singleton, begin-empty, begin-text, begin-newline, begin-sequence, begin-union, begin-group, begin-nest, skip-choices, push-alternatives, begin-choice, begin-kind, begin-known, begin-node}
 use Rattle.machine.specs.Solver.{complete-alias, complete-union, present-ranges, complete-choice-set, complete-wrapped, push-right, gap-if-fill, next-child, continue-sequence, next-left, complete-sequence-right, execute-task, step, step-on}
 use Rattle.machine.specs.Solve.{rest, Solved, before, least-key, best-of, solve-tasks, take-best, solve}
-use Rattle.meaning.specs.Post.{Post, holds-of, says, post-value}
-use Rattle.meaning.specs.Fronts.{Front, means}
-use Rattle.meaning.specs.Found.{solve-finds}
-use Rattle.meaning.specs.Relations.{Some, All2, nil, cons, laid}
-use Rattle.meaning.specs.Ready.{Ready}
-use Rattle.meaning.specs.Typed.{Cont, c-done, c-eval, c-alias, c-union, c-set, c-annotate, c-penalty, c-continue, c-right}
-use Rattle.meaning.specs.Sound.{Each, Inv}
-use Rattle.meaning.specs.Step.{step-good}
-use Rattle.meaning.specs.Rest.{rest-step, rest-none}
-use Rattle.meaning.specs.Falls.{falls}
-use Rattle.meaning.specs.Falls.{left as remaining}
+use Rattle.machine_right.specs.Post.{Post, holds-of, says, post-value}
+use Rattle.machine_right.specs.Fronts.{Front, means}
+use Rattle.machine_right.specs.Found.{solve-finds}
+use Rattle.machine_right.specs.Relations.{Some, All2, nil, cons, laid}
+use Rattle.machine_right.specs.Ready.{Ready}
+use Rattle.machine_right.specs.Typed.{Cont, c-done, c-eval, c-alias, c-union, c-set, c-annotate, c-penalty, c-continue, c-right}
+use Rattle.machine_right.specs.Sound.{Each, Inv}
+use Rattle.machine_right.specs.Step.{step-good}
+use Rattle.machine_right.specs.Rest.{rest-step, rest-none}
+use Rattle.machine_right.specs.Falls.{falls}
+use Rattle.machine_right.specs.Falls.{left as remaining}
 use Rattle.solve.specs.Numbered.{Names, PendingNames, NamesFrom, Waiting, Standing, Numbered, TextsBelow, Rooted}
 
 -- ---- what holds where a program ends, unless it comes to what cannot be

@@ -9,8 +9,8 @@ use Rattle.plan.specs.Layouts.{Ranked}
 use Rattle.machine.specs.Events.{Out, done, stop}
 use Rattle.machine.specs.Model.{Candidate, no-candidate}
 use Rattle.machine.specs.Solve.{Solved, least-key}
-use Rattle.workspace.specs.Meets.{tally, reason}
-use Rattle.workspace.specs.Rows.{Row, node-of}
+use Rattle.solve_workspace.specs.Meets.{tally, reason}
+use Rattle.solve_workspace.specs.Rows.{Row, node-of}
 use Rattle.solve.specs.declared.SolvedCore.{SolvedCore}
 use Rattle.solve.specs.declared.Solution.{Solution}
 use Rattle.solve.specs.declared.Solution.the-variants.{Found, Refused}

@@ -1,4 +1,4 @@
-// The exact solver (laidout's ExactSolver::solve): the tasks are worked off from the root on, and the best candidate of the root's frontier is taken.
+// The solver's loop (laidout's ExactSolver::solve): the tasks are worked off from the root on, and the best candidate of the root's frontier is taken.
 ghost use mathlib.Core.Path.{_≡_};
 ghost use mathlib.Core.Bool.{cond};
 ghost use mathlib.Core.List.{List, []};
@@ -9,43 +9,43 @@ ghost use Rattle.machine.specs.Events.{run, no-counts};
 ghost use Rattle.machine.specs.Model.{Prepared, part};
 ghost use Rattle.machine.specs.Solve.{rest, before, solve-tasks};
 ghost use Rattle.machine.specs.Solve.{take-best as best-taken, solve as solving};
-ghost use Rattle.workspace.specs.Meets.{Meets, counts, limits};
-ghost use Rattle.workspace.specs.declared.Bounds.{Bounds as Sizes};
-ghost use Rattle.workspace.specs.Rows.{Row, abs, candidate, candidate-of, row-list};
-ghost use Rattle.workspace.specs.Frames.{Memory};
-ghost use Rattle.workspace.specs.Lent.{WORDS, regs, Held, answer};
-ghost use Rattle.workspace.specs.Reading.{prepared, tables, rules};
-ghost use Rattle.execute.specs.Turn.{Room};
+ghost use Rattle.solve_workspace.specs.Meets.{Meets, counts, limits};
+ghost use Rattle.solve_workspace.specs.declared.Bounds.{Bounds as Sizes};
+ghost use Rattle.solve_workspace.specs.Rows.{Row, abs, candidate, candidate-of, row-list};
+ghost use Rattle.solve_workspace.specs.Frames.{Memory};
+ghost use Rattle.solve_workspace.specs.Lent.{WORDS, regs, Held, reached};
+ghost use Rattle.solve_workspace.specs.Reading.{prepared, tables, rules};
+ghost use Rattle.solve_execute.specs.Turn.{Room};
 ghost use Rattle.solve.specs.Accepted.{Accepted, Typed, MemoRoom, Topped};
 ghost use Rattle.solve.specs.Outcome.{outcome, least-of, with-nodes, Plans};
 ghost use Rattle.solve.specs.Numbered.{TextsBelow};
 ghost use Rattle.solve.specs.declared.Solution.the-variants.{Found};
 use cost::ConsumerCost;
-use execute::execute_task;
+use file_tables::NodeId;
+use file_tables::TextId;
 use memo::MemoKey;
 use plan::PlanId;
+use solve_execute::execute_task;
+use solve_workspace::Bounds;
+use solve_workspace::Candidate;
+use solve_workspace::ENTRIES;
+use solve_workspace::ExactTask;
+use solve_workspace::GENERATED;
+use solve_workspace::HITS;
+use solve_workspace::KEPT;
+use solve_workspace::LEN;
+use solve_workspace::MISSES;
+use solve_workspace::PEAK;
+use solve_workspace::PLANS;
+use solve_workspace::PRUNED;
+use solve_workspace::RenderOptions;
+use solve_workspace::START;
+use solve_workspace::TASKS;
+use solve_workspace::Turn;
+use solve_workspace::WORDS;
+use solve_workspace::WORK;
+use solve_workspace::Why;
 use stats::SolveStats;
-use tables::NodeId;
-use tables::TextId;
-use workspace::Bounds;
-use workspace::Candidate;
-use workspace::ENTRIES;
-use workspace::ExactTask;
-use workspace::GENERATED;
-use workspace::HITS;
-use workspace::KEPT;
-use workspace::LEN;
-use workspace::MISSES;
-use workspace::PEAK;
-use workspace::PLANS;
-use workspace::PRUNED;
-use workspace::RenderOptions;
-use workspace::START;
-use workspace::TASKS;
-use workspace::Turn;
-use workspace::WORDS;
-use workspace::WORK;
-use workspace::Why;
 
 // The chosen plan, its cost, how many plans there are, and the counts.
 pub struct SolvedCore {
@@ -87,11 +87,11 @@ fn least_candidate(kept: &[[u64; 6]], count: usize, start: u32, len: u32) -> Can
     ensures { λ r. ⌜ candidate r ≡ least-of (part (row-list candidate-of (now (kept .entry)) count) start len) ⌝ }
 {
     let first = start as usize;
-    let mut best = workspace::candidate_at(kept, count, first);
+    let mut best = solve_workspace::candidate_at(kept, count, first);
     let mut i: u32 = 1;
     while i < len {
         let at = first + i as usize;
-        let next = workspace::candidate_at(kept, count, at);
+        let next = solve_workspace::candidate_at(kept, count, at);
         best = lesser(next, best);
         i = i + 1;
     }
@@ -122,7 +122,7 @@ fn take_best(g: &mut [u64], results: &[[u32; 2]], kept: &[[u64; 6]]) -> SolvedCo
     ensures meets { λ c. ⌜ ((b : Sizes) (R : Rules) (P : Prepared) (ts ps es : List Row) (fs : List ℕ) (ns : List Row) → run (limits b) (counts (regs (now (g .entry)))) (best-taken R P (abs (regs (now (g .entry))) ts (now (results .entry)) ps es (now (kept .entry)) fs ns)) ≡ outcome (Found c) ns) ⌝ }
     ensures plans { λ c. ⌜ c .plans ≡ regs (now (g .entry)) .plans ⌝ }
 {
-    workspace::pop_exact_result(g, results);
+    solve_workspace::pop_exact_result(g, results);
     let count = g[KEPT] as usize;
     let start = (g[START] % 4294967296) as u32;
     let len = (g[LEN] % 4294967296) as u32;
@@ -154,19 +154,19 @@ fn work_off(
     tasks: &mut [[u32; 9]],
     results: &mut [[u32; 2]],
     pending: &mut [[u64; 7]],
-    slots: &mut [u64],
+    index: &mut [u64],
     entries: &mut [[u64; 6]],
     frontier: &mut [u64],
     kept: &mut [[u64; 6]],
     plans: &mut [[u32; 3]],
 ) -> Turn
-    requires { ⌜ Room b (now tasks) (now results) (now pending) (now frontier) (now kept) (now plans) × (Memory b (regs (now g) .memo) (now slots) (now entries) × (Held b (now g) × (Accepted (now nodes) (now edges) (now choices) (now texts) (space .0) × ((bytes : List ℕ) (annotations root : ℕ) → Typed (rules options) (prepared (tables (now nodes) (now edges) (now choices) (now texts) bytes annotations root (space .0))) (abs (regs (now g)) (now tasks) (now results) (now pending) (now entries) (now kept) (now frontier) (now plans)))))) ⌝ }
-    ensures { λ a. ⌜ ((bytes : List ℕ) (annotations root : ℕ) → Meets b (counts (regs (now (g .entry)))) (rest (rules options) (prepared (tables (now (nodes .entry)) (now (edges .entry)) (now (choices .entry)) (now (texts .entry)) bytes annotations root (space .0))) (abs (regs (now (g .entry))) (now (tasks .entry)) (now (results .entry)) (now (pending .entry)) (now (entries .entry)) (now (kept .entry)) (now (frontier .entry)) (now (plans .entry)))) (answer a (now (g .exit))) (λ s. abs s (now (tasks .exit)) (now (results .exit)) (now (pending .exit)) (now (entries .exit)) (now (kept .exit)) (now (frontier .exit)) (now (plans .exit)))) ⌝ }
+    requires { ⌜ Room b (now tasks) (now results) (now pending) (now frontier) (now kept) (now plans) × (Memory b (regs (now g) .memo) (now index) (now entries) × (Held b (now g) × (Accepted (now nodes) (now edges) (now choices) (now texts) (space .0) × ((bytes : List ℕ) (annotations root : ℕ) → Typed (rules options) (prepared (tables (now nodes) (now edges) (now choices) (now texts) bytes annotations root (space .0))) (abs (regs (now g)) (now tasks) (now results) (now pending) (now entries) (now kept) (now frontier) (now plans)))))) ⌝ }
+    ensures { λ a. ⌜ ((bytes : List ℕ) (annotations root : ℕ) → Meets b (counts (regs (now (g .entry)))) (rest (rules options) (prepared (tables (now (nodes .entry)) (now (edges .entry)) (now (choices .entry)) (now (texts .entry)) bytes annotations root (space .0))) (abs (regs (now (g .entry))) (now (tasks .entry)) (now (results .entry)) (now (pending .entry)) (now (entries .entry)) (now (kept .entry)) (now (frontier .entry)) (now (plans .entry)))) (reached a (now (g .exit))) (λ s. abs s (now (tasks .exit)) (now (results .exit)) (now (pending .exit)) (now (entries .exit)) (now (kept .exit)) (now (frontier .exit)) (now (plans .exit)))) ⌝ }
 {
     while 0 < g[TASKS] {
         let top = g[TASKS] as usize - 1;
         let row = tasks[top];
-        let task = workspace::row_task(row);
+        let task = solve_workspace::row_task(row);
         g[TASKS] = top as u64;
         let a = execute_task(
             options,
@@ -180,7 +180,7 @@ fn work_off(
             tasks,
             results,
             pending,
-            slots,
+            index,
             entries,
             frontier,
             kept,
@@ -208,22 +208,22 @@ fn run_tasks(
     tasks: &mut [[u32; 9]],
     results: &mut [[u32; 2]],
     pending: &mut [[u64; 7]],
-    slots: &mut [u64],
+    index: &mut [u64],
     entries: &mut [[u64; 6]],
     frontier: &mut [u64],
     kept: &mut [[u64; 6]],
     plans: &mut [[u32; 3]],
 ) -> Turn
-    requires { ⌜ Room b (now tasks) (now results) (now pending) (now frontier) (now kept) (now plans) × (MemoRoom b (now slots) (now entries) × (Accepted (now nodes) (now edges) (now choices) (now texts) (space .0) × (now g ≡ replicate WORDS 0))) ⌝ }
-    ensures { λ a. ⌜ ((bytes : List ℕ) (annotations : ℕ) → Meets b no-counts (solve-tasks (rules options) (prepared (tables (now (nodes .entry)) (now (edges .entry)) (now (choices .entry)) (now (texts .entry)) bytes annotations (root .0) (space .0)))) (answer a (now (g .exit))) (λ s. abs s (now (tasks .exit)) (now (results .exit)) (now (pending .exit)) (now (entries .exit)) (now (kept .exit)) (now (frontier .exit)) (now (plans .exit)))) ⌝ }
+    requires { ⌜ Room b (now tasks) (now results) (now pending) (now frontier) (now kept) (now plans) × (MemoRoom b (now index) (now entries) × (Accepted (now nodes) (now edges) (now choices) (now texts) (space .0) × (now g ≡ replicate WORDS 0))) ⌝ }
+    ensures { λ a. ⌜ ((bytes : List ℕ) (annotations : ℕ) → Meets b no-counts (solve-tasks (rules options) (prepared (tables (now (nodes .entry)) (now (edges .entry)) (now (choices .entry)) (now (texts .entry)) bytes annotations (root .0) (space .0)))) (reached a (now (g .exit))) (λ s. abs s (now (tasks .exit)) (now (results .exit)) (now (pending .exit)) (now (entries .exit)) (now (kept .exit)) (now (frontier .exit)) (now (plans .exit)))) ⌝ }
 {
-    builder::begin_builder(g);
+    solve_builder::begin_builder(g);
     let key = MemoKey {
         node: root.0,
         column: 0,
         indent: 0,
     };
-    let a = workspace::push_exact_task(b, g, tasks, ExactTask::Eval(key));
+    let a = solve_workspace::push_exact_task(b, g, tasks, ExactTask::Eval(key));
     let Turn::Going = a else {
         return a;
     };
@@ -239,7 +239,7 @@ fn run_tasks(
         tasks,
         results,
         pending,
-        slots,
+        index,
         entries,
         frontier,
         kept,
@@ -259,13 +259,13 @@ pub fn solve(
     tasks: &mut [[u32; 9]],
     results: &mut [[u32; 2]],
     pending: &mut [[u64; 7]],
-    slots: &mut [u64],
+    index: &mut [u64],
     entries: &mut [[u64; 6]],
     frontier: &mut [u64],
     kept: &mut [[u64; 6]],
     plans: &mut [[u32; 3]],
 ) -> Solution
-    requires { ⌜ Room b (now tasks) (now results) (now pending) (now frontier) (now kept) (now plans) × (MemoRoom b (now slots) (now entries) × Accepted (now nodes) (now edges) (now choices) (now texts) (space .0)) ⌝ }
+    requires { ⌜ Room b (now tasks) (now results) (now pending) (now frontier) (now kept) (now plans) × (MemoRoom b (now index) (now entries) × Accepted (now nodes) (now edges) (now choices) (now texts) (space .0)) ⌝ }
     ensures meets { λ a. ⌜ ((bytes : List ℕ) (annotations : ℕ) → run (limits b) no-counts (solving (rules options) (prepared (tables (now (nodes .entry)) (now (edges .entry)) (now (choices .entry)) (now (texts .entry)) bytes annotations (root .0) (space .0)))) ≡ outcome a (now (plans .exit))) ⌝ }
     ensures arranged { λ a. ⌜ ((t : ℕ) → TextsBelow t (prepared (tables (now (nodes .entry)) (now (edges .entry)) (now (choices .entry)) (now (texts .entry)) [] 0 0 (space .0))) → Plans t a (now (plans .exit))) ⌝ }
 {
@@ -283,7 +283,7 @@ pub fn solve(
         tasks,
         results,
         pending,
-        slots,
+        index,
         entries,
         frontier,
         kept,

@@ -1,8 +1,8 @@
 -- Rows written over a list of spans one by one, as the loop does, and that this is `laid`.
-use mathlib.Core.Path.{_≡_, refl, sym, ap, _∙_}
-use Prim.Native.Nat.{ℕ, zero, suc, _<_, _≤_}
+use mathlib.Core.Path.{_≡_, refl, sym, _∙_}
+use Prim.Native.Nat.{ℕ, zero, suc, _≤_}
 use native.Mathlib.Omega.{arith}
-use mathlib.Core.List.{List, [], _∷_, _++_, map, map-append, append-assoc}
+use mathlib.Core.List.{List, [], _∷_, map, map-append, append-assoc}
 use lib.ListN.{length, set, getD, take, drop, length-set, length-map}
 use lib.Seq.{length-take-le, take-suc, drop-cons, set-at}
 use Rattle.spans.specs.declared.AnnotationSpan.{AnnotationSpan}

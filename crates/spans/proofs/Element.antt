@@ -14,13 +14,13 @@ use denote.Laws.{Is}
 use denote.Slice.{Room}
 use denote.Struct.Laws as LL
 use denote.Enum.Laws as LE
-use Rattle.tables.specs.declared.AnnotationId.{AnnotationId}
+use Rattle.file_tables.specs.declared.AnnotationId.{AnnotationId}
 use Rattle.spans.specs.declared.AnnotationSpan.{AnnotationSpan}
 use Rattle.spans.specs.declared.Parent.{Parent}
 use Rattle.spans.proofs.AnnotationSpan as T
 use Rattle.spans.proofs.AnnotationSpan.Laws as T′
-use Rattle.tables.proofs.AnnotationId as N
-use Rattle.tables.proofs.AnnotationId.Laws as N′
+use Rattle.file_tables.proofs.AnnotationId as N
+use Rattle.file_tables.proofs.AnnotationId.Laws as N′
 use Rattle.spans.proofs.Parent as P
 use Rattle.spans.proofs.Parent.Laws as P′
 

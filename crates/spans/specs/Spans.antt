@@ -2,8 +2,7 @@
 use Prim.Native.Nat.{ℕ, zero, suc, _<_, _≤_, _^_}
 use mathlib.Core.List.{List, _++_, map}
 use lib.ListN.{getD, take, drop}
-use Rattle.tables.specs.declared.AnnotationId.{AnnotationId}
-use Rattle.spans.specs.declared.SpanId.{SpanId}
+use Rattle.file_tables.specs.declared.AnnotationId.{AnnotationId}
 use Rattle.spans.specs.declared.AnnotationSpan.{AnnotationSpan}
 use Rattle.spans.specs.declared.Parent.{Parent}
 use Rattle.spans.specs.declared.Parent.the-variants.{Nothing, Span}

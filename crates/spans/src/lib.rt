@@ -1,10 +1,10 @@
 // Span records (document 01: the caller lends a list of them): annotation, start, end, parent span or none. Thin functions open and close one in the lent list.
 ghost use mathlib.Core.Path.{_≡_};
-ghost use Prim.Native.Nat.{ℕ, _<_, _≤_, _^_};
+ghost use Prim.Native.Nat.{ℕ, _<_, _≤_};
 ghost use mathlib.Core.List.{[]};
 ghost use lib.ListN.{length, set, getD};
 ghost use Rattle.spans.specs.Spans.{openSpan, closeSpan, blank, wordFits, parentOf, RowFits, spanOf, laid};
-use tables::AnnotationId;
+use file_tables::AnnotationId;
 
 pub struct SpanId(pub u32);
 

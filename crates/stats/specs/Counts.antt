@@ -2,11 +2,10 @@
 use Prim.Native.Nat.{ℕ, _+_}
 use Rattle.stats.specs.declared.SolveStats.{SolveStats}
 use Rattle.stats.specs.declared.SolveCounter.{SolveCounter}
-use Rattle.stats.specs.declared.SolveCounter.the-variants.{WorkItems, FitChecks, MemoHits, MemoMisses, CandidatesGenerated, CandidatesPruned}
+use Rattle.stats.specs.declared.SolveCounter.the-variants.{WorkItems, MemoHits, MemoMisses, CandidatesGenerated, CandidatesPruned}
 
 unfoldable pub counted : SolveStats → SolveCounter → ℕ
 counted s WorkItems = s .«work_items»
-counted s FitChecks = s .«fit_checks»
 counted s MemoHits = s .«memo_hits»
 counted s MemoMisses = s .«memo_misses»
 counted s CandidatesGenerated = s .«candidates_generated»
@@ -24,7 +23,6 @@ none-counted = counts 0 0 0 0 0 0 0 0 0 0
 -- the same record with one more in the counter
 unfoldable pub bumped : SolveStats → SolveCounter → SolveStats
 bumped s WorkItems = counts (s .«work_items» + 1) (s .«fit_checks») (s .«memo_hits») (s .«memo_misses») (s .«candidates_generated») (s .«candidates_pruned») (s .«peak_frontier») (s .«memo_entries») (s .«plan_nodes») (s .visits)
-bumped s FitChecks = counts (s .«work_items») (s .«fit_checks» + 1) (s .«memo_hits») (s .«memo_misses») (s .«candidates_generated») (s .«candidates_pruned») (s .«peak_frontier») (s .«memo_entries») (s .«plan_nodes») (s .visits)
 bumped s MemoHits = counts (s .«work_items») (s .«fit_checks») (s .«memo_hits» + 1) (s .«memo_misses») (s .«candidates_generated») (s .«candidates_pruned») (s .«peak_frontier») (s .«memo_entries») (s .«plan_nodes») (s .visits)
 bumped s MemoMisses = counts (s .«work_items») (s .«fit_checks») (s .«memo_hits») (s .«memo_misses» + 1) (s .«candidates_generated») (s .«candidates_pruned») (s .«peak_frontier») (s .«memo_entries») (s .«plan_nodes») (s .visits)
 bumped s CandidatesGenerated = counts (s .«work_items») (s .«fit_checks») (s .«memo_hits») (s .«memo_misses») (s .«candidates_generated» + 1) (s .«candidates_pruned») (s .«peak_frontier») (s .«memo_entries») (s .«plan_nodes») (s .visits)

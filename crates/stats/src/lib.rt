@@ -32,9 +32,9 @@ impl SolveStats {
     };
 }
 
+// What is counted one by one. Fit checks are left behind (their count is 0); the other counts of the record are set.
 pub enum SolveCounter {
     WorkItems,
-    FitChecks,
     MemoHits,
     MemoMisses,
     CandidatesGenerated,
@@ -50,9 +50,6 @@ pub fn incremented(s: SolveStats, c: SolveCounter) -> SolveStats
     match c {
         SolveCounter::WorkItems => {
             t.work_items = t.work_items + 1;
-        }
-        SolveCounter::FitChecks => {
-            t.fit_checks = t.fit_checks + 1;
         }
         SolveCounter::MemoHits => {
             t.memo_hits = t.memo_hits + 1;

@@ -62,7 +62,7 @@ module _ (t : ℕ) where
   Start = lts.Start (get-reads.Asked, get-reads.Learnt, store-reads.Asked, store-reads.Learnt, detach-min-below t, detach-min.Post, graft-left-reads.Asked, graft-left-reads.Learnt) (detach-min-at t) detach-min.Post
 
   abbrev Form : Start → Type 0
-  Form s = FormO (s .args .f .now) (s .args .root)
+  Form s = FormO (s .args .frontier .now) (s .args .root)
 
   get-requires : Need-get-requires
   get-requires c κs = (the-o (c .before .before .pre .1) .held .at, lit< tt)
@@ -77,15 +77,15 @@ module _ (t : ℕ) where
   same-length c = search needs
 
   returns : Need-returns
-  returns c = form-o (λ t lo hi. Cut (c .before .before .before .before .before .before .before .before .before .before .args .f .now) (c .before .before .store .last .0) (c .before .before .before .before .get2 .result) (c .before .before .before .before .before .before .before .before .before .before .args .root) t lo hi) λ q.
+  returns c = form-o (λ t lo hi. Cut (c .before .before .before .before .before .before .before .before .before .before .args .frontier .now) (c .before .before .store .last .0) (c .before .before .before .before .get2 .result) (c .before .before .before .before .before .before .before .before .before .before .args .root) t lo hi) λ q.
       out.first q (c .before .before .before .before .before .before .before .get .ensures) (c .before .before .before .before .before .before .if1 .taken) (c .before .before .before .before .get2 .ensures) (c .before .before .store .ensures)
 
   detach-min-requires : Need-detach-min-requires
   detach-min-requires c κs =
       let q = the-o (c .before .before .before .before .before .pre .1) in
-      (subst (λ z. high (c .before .before .before .before .before .args .f .now) (c .before .before .get .result) < z) (c .before .before .before .before .before .pre .0) (out.falls q (c .before .before .get .ensures)), out.full-l q (c .before .before .get .ensures) (c .before .if1 .left))
+      (subst (λ z. high (c .before .before .before .before .before .args .frontier .now) (c .before .before .get .result) < z) (c .before .before .before .before .before .pre .0) (out.falls q (c .before .before .get .ensures)), out.full-l q (c .before .before .get .ensures) (c .before .if1 .left))
 
-  called : (c : After-detach-min) (q : Form (c .before .before .before .before .before .before)) → Cut (c .before .before .before .before .before .before .args .f .now) (c .detach-min .last .0) (c .detach-min .result .rest) (c .detach-min .result .least) (q .l) (q .lo) (q .k)
+  called : (c : After-detach-min) (q : Form (c .before .before .before .before .before .before)) → Cut (c .before .before .before .before .before .before .args .frontier .now) (c .detach-min .last .0) (c .detach-min .result .rest) (c .detach-min .result .least) (q .l) (q .lo) (q .k)
   called c q = c .detach-min .ensures (out.full-l q (c .before .before .before .get .ensures) (c .before .before .if1 .left))
 
   has : (c : After-detach-min) (q : Form (c .before .before .before .before .before .before)) → 0 < Rattle.avl.specs.Tree.ht (q .l)
@@ -98,7 +98,7 @@ module _ (t : ℕ) where
   same-length-2 c = search needs
 
   returns-2 : Need-returns-2
-  returns-2 c = form-o (λ t lo hi. Cut (c .before .before .before .before .before .before .before .before .before .before .before .before .args .f .now) (c .before .before .graft-left .last .0) (c .before .before .graft-left .result) (c .before .before .before .before .before .before .detach-min .result .least) t lo hi) λ q.
+  returns-2 c = form-o (λ t lo hi. Cut (c .before .before .before .before .before .before .before .before .before .before .before .before .args .frontier .now) (c .before .before .graft-left .last .0) (c .before .before .graft-left .result) (c .before .before .before .before .before .before .detach-min .result .least) t lo hi) λ q.
       let g = c .before .before .before .before .before .before in
       out.done q (has g q) (called g q) (c .before .before .graft-left .ensures (out.graft q (has g q) (called g q)))
 

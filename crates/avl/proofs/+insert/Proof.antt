@@ -85,7 +85,7 @@ module _ (t : ℕ) where
   Need-returns-3 = lts.Need-returns-3 (get-reads.Asked, get-reads.Learnt, insert-below t, insert.Post, graft-left-reads.Asked, graft-left-reads.Learnt, graft-right-reads.Asked, graft-right-reads.Learnt) (insert-at t) insert.Post
 
   abbrev Form : Start → Type 0
-  Form s = FormI (s .args .f .now) (s .args .root) (s .args .s)
+  Form s = FormI (s .args .frontier .now) (s .args .root) (s .args .s)
 
   returns : Need-returns
   returns c = λ p. alone p (c .if1 .taken)
@@ -105,9 +105,9 @@ module _ (t : ℕ) where
   insert-requires : Need-insert-requires
   insert-requires c κs =
       let q = the-i (c .before .before .before .before .before .before .before .before .if1 .left) (c .before .before .before .before .before .before .before .before .before .before .pre .1) in
-      (subst (λ z. high (c .before .before .before .before .before .before .before .before .before .before .args .f .now) (c .before .get3 .result) < z) (c .before .before .before .before .before .before .before .before .before .before .pre .0) (falls-l q (c .before .get3 .ensures)), room-l q (c .before .get3 .ensures) (lt (c .before .before .before) q))
+      (subst (λ z. high (c .before .before .before .before .before .before .before .before .before .before .args .frontier .now) (c .before .get3 .result) < z) (c .before .before .before .before .before .before .before .before .before .before .pre .0) (falls-l q (c .before .get3 .ensures)), room-l q (c .before .get3 .ensures) (lt (c .before .before .before) q))
 
-  called : (c : After-insert) (q : Form (c .before .before .before .before .before .before .before .before .before .before .before)) → Made (c .before .before .before .before .before .before .before .before .before .before .before .args .f .now) (c .insert .last .0) (c .insert .result) (ins (c .before .before .before .before .before .before .before .before .before .before .before .args .s) (q .k) (q .l)) (q .lo) (q .j)
+  called : (c : After-insert) (q : Form (c .before .before .before .before .before .before .before .before .before .before .before)) → Made (c .before .before .before .before .before .before .before .before .before .before .before .args .frontier .now) (c .insert .last .0) (c .insert .result) (ins (c .before .before .before .before .before .before .before .before .before .before .before .args .s) (q .k) (q .l)) (q .lo) (q .j)
   called c q = c .insert .ensures (room-l q (c .before .before .get3 .ensures) (lt (c .before .before .before .before) q))
 
   graft-left-requires : Need-graft-left-requires
@@ -117,7 +117,7 @@ module _ (t : ℕ) where
   same-length c = search needs
 
   returns-2 : Need-returns-2
-  returns-2 c = form-i (λ t k lo hi. Made (c .before .before .before .before .before .before .before .before .before .before .before .before .before .before .before .before .before .args .f .now) (c .before .before .graft-left .last .0) (c .before .before .graft-left .result) (ins (c .before .before .before .before .before .before .before .before .before .before .before .before .before .before .before .before .before .args .s) k t) lo hi) (c .before .before .before .before .before .before .before .before .before .before .before .before .before .before .before .if1 .left) λ q.
+  returns-2 c = form-i (λ t k lo hi. Made (c .before .before .before .before .before .before .before .before .before .before .before .before .before .before .before .before .before .args .frontier .now) (c .before .before .graft-left .last .0) (c .before .before .graft-left .result) (ins (c .before .before .before .before .before .before .before .before .before .before .before .before .before .before .before .before .before .args .s) k t) lo hi) (c .before .before .before .before .before .before .before .before .before .before .before .before .before .before .before .if1 .left) λ q.
       let h = lt (c .before .before .before .before .before .before .before .before .before .before) q in
       done-l q h (called (c .before .before .before .before .before .before) q) (c .before .before .graft-left .ensures (graft-l q h (called (c .before .before .before .before .before .before) q)))
 
@@ -130,9 +130,9 @@ module _ (t : ℕ) where
   insert-requires-2 : Need-insert-requires-2
   insert-requires-2 c κs =
       let q = the-i (c .before .before .before .before .before .before .before .before .if1 .left) (c .before .before .before .before .before .before .before .before .before .before .pre .1) in
-      (subst (λ z. high (c .before .before .before .before .before .before .before .before .before .before .args .f .now) (c .before .get4 .result) < z) (c .before .before .before .before .before .before .before .before .before .before .pre .0) (falls-r q (c .before .get4 .ensures)), room-r q (c .before .get4 .ensures) (gt (c .before .before .before) q))
+      (subst (λ z. high (c .before .before .before .before .before .before .before .before .before .before .args .frontier .now) (c .before .get4 .result) < z) (c .before .before .before .before .before .before .before .before .before .before .pre .0) (falls-r q (c .before .get4 .ensures)), room-r q (c .before .get4 .ensures) (gt (c .before .before .before) q))
 
-  called-2 : (c : After-insert2) (q : Form (c .before .before .before .before .before .before .before .before .before .before .before)) → Made (c .before .before .before .before .before .before .before .before .before .before .before .args .f .now) (c .insert2 .last .0) (c .insert2 .result) (ins (c .before .before .before .before .before .before .before .before .before .before .before .args .s) (q .k) (q .r)) (Prim.Native.Nat.suc (q .j)) (q .hi)
+  called-2 : (c : After-insert2) (q : Form (c .before .before .before .before .before .before .before .before .before .before .before)) → Made (c .before .before .before .before .before .before .before .before .before .before .before .args .frontier .now) (c .insert2 .last .0) (c .insert2 .result) (ins (c .before .before .before .before .before .before .before .before .before .before .before .args .s) (q .k) (q .r)) (Prim.Native.Nat.suc (q .j)) (q .hi)
   called-2 c q = c .insert2 .ensures (room-r q (c .before .before .get4 .ensures) (gt (c .before .before .before .before) q))
 
   graft-right-requires : Need-graft-right-requires
@@ -142,7 +142,7 @@ module _ (t : ℕ) where
   same-length-2 c = search needs
 
   returns-3 : Need-returns-3
-  returns-3 c = form-i (λ t k lo hi. Made (c .before .before .before .before .before .before .before .before .before .before .before .before .before .before .before .before .before .args .f .now) (c .before .before .graft-right .last .0) (c .before .before .graft-right .result) (ins (c .before .before .before .before .before .before .before .before .before .before .before .before .before .before .before .before .before .args .s) k t) lo hi) (c .before .before .before .before .before .before .before .before .before .before .before .before .before .before .before .if1 .left) λ q.
+  returns-3 c = form-i (λ t k lo hi. Made (c .before .before .before .before .before .before .before .before .before .before .before .before .before .before .before .before .before .args .frontier .now) (c .before .before .graft-right .last .0) (c .before .before .graft-right .result) (ins (c .before .before .before .before .before .before .before .before .before .before .before .before .before .before .before .before .before .args .s) k t) lo hi) (c .before .before .before .before .before .before .before .before .before .before .before .before .before .before .before .if1 .left) λ q.
       let h = gt (c .before .before .before .before .before .before .before .before .before .before) q in
       done-r q h (called-2 (c .before .before .before .before .before .before) q) (c .before .before .graft-right .ensures (graft-r q h (called-2 (c .before .before .before .before .before .before) q)))
 

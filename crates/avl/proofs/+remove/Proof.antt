@@ -98,7 +98,7 @@ module _ (t : ℕ) where
   Then2 = lts.Then2 (get-reads.Asked, get-reads.Learnt, remove-below t, remove.Post, graft-left-reads.Asked, graft-left-reads.Learnt, graft-right-reads.Asked, graft-right-reads.Learnt, clear-reads.Asked, clear-reads.Learnt, unite-reads.Asked, unite-reads.Learnt) (remove-at t) remove.Post
 
   abbrev Form : Start → Type 0
-  Form s = FormD (s .args .f .now) (s .args .root) (s .args .column)
+  Form s = FormD (s .args .frontier .now) (s .args .root) (s .args .column)
 
   get-requires : Need-get-requires
   get-requires c κs = (the-d (c .before .before .pre .1) .held .at, lit< tt)
@@ -119,9 +119,9 @@ module _ (t : ℕ) where
   remove-requires : Need-remove-requires
   remove-requires c κs =
       let q = the-d (c .before .before .before .before .before .before .before .before .before .pre .1) in
-      (subst (λ z. high (c .before .before .before .before .before .before .before .before .before .args .f .now) (c .before .before .before .before .get2 .result) < z) (c .before .before .before .before .before .before .before .before .before .pre .0) (d-falls-l q (c .before .before .before .before .get2 .ensures)), has-l q (c .before .before .before .before .get2 .ensures) (lt (c .before) q))
+      (subst (λ z. high (c .before .before .before .before .before .before .before .before .before .args .frontier .now) (c .before .before .before .before .get2 .result) < z) (c .before .before .before .before .before .before .before .before .before .pre .0) (d-falls-l q (c .before .before .before .before .get2 .ensures)), has-l q (c .before .before .before .before .get2 .ensures) (lt (c .before) q))
 
-  called : (c : After-remove) (q : Form (c .before .before .before .before .before .before .before .before .before .before)) → Gone (c .before .before .before .before .before .before .before .before .before .before .args .f .now) (c .remove .last .0) (c .remove .result .root) (c .remove .result .slot) (c .before .before .before .before .before .before .before .before .before .before .args .column) (q .l) (q .lo) (q .j)
+  called : (c : After-remove) (q : Form (c .before .before .before .before .before .before .before .before .before .before)) → Gone (c .before .before .before .before .before .before .before .before .before .before .args .frontier .now) (c .remove .last .0) (c .remove .result .root) (c .remove .result .slot) (c .before .before .before .before .before .before .before .before .before .before .args .column) (q .l) (q .lo) (q .j)
   called c q = c .remove .ensures (has-l q (c .before .before .before .before .before .get2 .ensures) (lt (c .before .before) q))
 
   graft-left-requires : Need-graft-left-requires
@@ -131,7 +131,7 @@ module _ (t : ℕ) where
   same-length c = search needs
 
   returns : Need-returns
-  returns c = form-d (λ t lo hi. Gone (c .before .before .before .before .before .before .before .before .before .before .before .before .before .before .before .before .args .f .now) (c .before .before .graft-left .last .0) (c .before .before .graft-left .result) (c .before .before .before .before .before .before .remove .result .slot) (c .before .before .before .before .before .before .before .before .before .before .before .before .before .before .before .before .args .column) t lo hi) λ q.
+  returns c = form-d (λ t lo hi. Gone (c .before .before .before .before .before .before .before .before .before .before .before .before .before .before .before .before .args .frontier .now) (c .before .before .graft-left .last .0) (c .before .before .graft-left .result) (c .before .before .before .before .before .before .remove .result .slot) (c .before .before .before .before .before .before .before .before .before .before .before .before .before .before .before .before .args .column) t lo hi) λ q.
       d-done-l q (lt (c .before .before .before .before .before .before .before .before) q) (called (c .before .before .before .before .before .before) q) (c .before .before .graft-left .ensures (d-graft-l q (called (c .before .before .before .before .before .before) q)))
 
   gt : (c : Then2) (q : Form (c .before .before .before .before .before .before .before .before .before)) → q .j < c .before .before .before .before .before .before .before .before .before .args .column
@@ -140,9 +140,9 @@ module _ (t : ℕ) where
   remove-requires-2 : Need-remove-requires-2
   remove-requires-2 c κs =
       let q = the-d (c .before .before .before .before .before .before .before .before .before .before .pre .1) in
-      (subst (λ z. high (c .before .before .before .before .before .before .before .before .before .before .args .f .now) (c .before .before .before .get3 .result) < z) (c .before .before .before .before .before .before .before .before .before .before .pre .0) (d-falls-r q (c .before .before .before .get3 .ensures)), has-r q (c .before .before .before .get3 .ensures) (gt (c .before) q))
+      (subst (λ z. high (c .before .before .before .before .before .before .before .before .before .before .args .frontier .now) (c .before .before .before .get3 .result) < z) (c .before .before .before .before .before .before .before .before .before .before .pre .0) (d-falls-r q (c .before .before .before .get3 .ensures)), has-r q (c .before .before .before .get3 .ensures) (gt (c .before) q))
 
-  called-2 : (c : After-remove2) (q : Form (c .before .before .before .before .before .before .before .before .before .before .before)) → Gone (c .before .before .before .before .before .before .before .before .before .before .before .args .f .now) (c .remove2 .last .0) (c .remove2 .result .root) (c .remove2 .result .slot) (c .before .before .before .before .before .before .before .before .before .before .before .args .column) (q .r) (suc (q .j)) (q .hi)
+  called-2 : (c : After-remove2) (q : Form (c .before .before .before .before .before .before .before .before .before .before .before)) → Gone (c .before .before .before .before .before .before .before .before .before .before .before .args .frontier .now) (c .remove2 .last .0) (c .remove2 .result .root) (c .remove2 .result .slot) (c .before .before .before .before .before .before .before .before .before .before .before .args .column) (q .r) (suc (q .j)) (q .hi)
   called-2 c q = c .remove2 .ensures (has-r q (c .before .before .before .before .get3 .ensures) (gt (c .before .before) q))
 
   graft-right-requires : Need-graft-right-requires
@@ -152,13 +152,13 @@ module _ (t : ℕ) where
   same-length-2 c = search needs
 
   returns-2 : Need-returns-2
-  returns-2 c = form-d (λ t lo hi. Gone (c .before .before .before .before .before .before .before .before .before .before .before .before .before .before .before .before .before .args .f .now) (c .before .before .graft-right .last .0) (c .before .before .graft-right .result) (c .before .before .before .before .before .before .remove2 .result .slot) (c .before .before .before .before .before .before .before .before .before .before .before .before .before .before .before .before .before .args .column) t lo hi) λ q.
+  returns-2 c = form-d (λ t lo hi. Gone (c .before .before .before .before .before .before .before .before .before .before .before .before .before .before .before .before .before .args .frontier .now) (c .before .before .graft-right .last .0) (c .before .before .graft-right .result) (c .before .before .before .before .before .before .remove2 .result .slot) (c .before .before .before .before .before .before .before .before .before .before .before .before .before .before .before .before .before .args .column) t lo hi) λ q.
       d-done-r q (gt (c .before .before .before .before .before .before .before .before) q) (called-2 (c .before .before .before .before .before .before) q) (c .before .before .graft-right .ensures (d-graft-r q (called-2 (c .before .before .before .before .before .before) q)))
 
   clear-requires : Need-clear-requires
   clear-requires c κs = the-d (c .before .before .before .before .before .before .before .before .before .before .pre .1) .held .at
 
-  cleared : (c : After-clear) (q : Form (c .before .before .before .before .before .before .before .before .before .before .before)) → Frame (c .before .before .before .before .before .before .before .before .before .before .before .args .f .now) (c .clear .last .0) (q .j) (suc (q .j))
+  cleared : (c : After-clear) (q : Form (c .before .before .before .before .before .before .before .before .before .before .before)) → Frame (c .before .before .before .before .before .before .before .before .before .before .before .args .frontier .now) (c .clear .last .0) (q .j) (suc (q .j))
   cleared c q = frame-cleared (c .before .before .before .before .before .before .before .before .before .before .before .args .root) (q .j) (q .held .key-is) (c .clear .ensures)
 
   abbrev halves : (c : After-clear) → Form (c .before .before .before .before .before .before .before .before .before .before .before) → Pair (c .clear .last .0) (c .before .before .before .before .before .before .get2 .result) (c .before .before .before .before .get3 .result)
@@ -171,7 +171,7 @@ module _ (t : ℕ) where
   same-length-3 c = search needs
 
   returns-3 : Need-returns-3
-  returns-3 c = form-d (λ t lo hi. Gone (c .before .before .before .before .before .before .before .before .before .before .before .before .before .before .before .before .before .args .f .now) (c .before .before .unite .last .0) (c .before .before .unite .result) (c .before .before .before .before .before .before .before .before .before .before .before .before .before .before .before .before .before .args .root) (c .before .before .before .before .before .before .before .before .before .before .before .before .before .before .before .before .before .args .column) t lo hi) λ q.
+  returns-3 c = form-d (λ t lo hi. Gone (c .before .before .before .before .before .before .before .before .before .before .before .before .before .before .before .before .before .args .frontier .now) (c .before .before .unite .last .0) (c .before .before .unite .result) (c .before .before .before .before .before .before .before .before .before .before .before .before .before .before .before .before .before .args .root) (c .before .before .before .before .before .before .before .before .before .before .before .before .before .before .before .before .before .args .column) t lo hi) λ q.
       d-here q (omega (arith, c .before .before .before .before .before .before .before .before .if2 .left, c .before .before .before .before .before .before .before .before .before .if1 .left, here (c .before .before .before .before .before .before .before .before .before .before) q)) (cleared (c .before .before .before .before .before .before) q) (c .before .before .unite .ensures (halves (c .before .before .before .before .before .before) q))
 
 pub +remove-spec : {M : Type 1} → statement M

@@ -10,8 +10,8 @@ use Rattle.avl.proofs.high_right.Tie as tie
 get-requires : tie.Need-get-requires
 get-requires c κs = search needs
 
-abbrev at : (c : tie.After-get) → let s = c .before .before in Spot (s .args .f .now) (s .args .s) → Held (s .args .f .now) (c .get .result)
-at c p = record { tree = p .r; holds = subst (λ q. Holds (c .before .before .args .f .now) q (p .r)) (sym (c .get .ensures)) (p .held .r-held) }
+abbrev at : (c : tie.After-get) → let s = c .before .before in Spot (s .args .frontier .now) (s .args .s) → Held (s .args .frontier .now) (c .get .result)
+at c p = record { tree = p .r; holds = subst (λ q. Holds (c .before .before .args .frontier .now) q (p .r)) (sym (c .get .ensures)) (p .held .r-held) }
 
 height-requires : tie.Need-height-requires
 height-requires c κs = at c (c .before .before .pre)

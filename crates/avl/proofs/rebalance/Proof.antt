@@ -13,7 +13,7 @@ use Rattle.avl.proofs.rebalance.Statement.{statement}
 use Rattle.avl.proofs.rebalance.Tie as tie
 
 abbrev Pre : tie.Start → Type 0
-Pre s = Spot (s .args .f .now) (s .args .s)
+Pre s = Spot (s .args .frontier .now) (s .args .s)
 
 update-height-requires : tie.Need-update-height-requires
 update-height-requires c κs = search needs

@@ -11,11 +11,11 @@ mul-i c = omega arith
 add-i : tie.Need-add-i
 add-i c = omega arith
 
-mul-f : tie.Need-mul-f
-mul-f c = omega arith
+mul-frontier : tie.Need-mul-frontier
+mul-frontier c = omega arith
 
-slice-write-f : tie.Need-slice-write-f
-slice-write-f c = omega arith
+slice-write-frontier : tie.Need-slice-write-frontier
+slice-write-frontier c = omega arith
 
 same-length : tie.Need-same-length
 same-length c = search needs
@@ -25,4 +25,4 @@ unfolding word put
 returns c = refl
 
 pub store-spec : {M : Type 1} → statement M
-store-spec = tie.close (tie.spec mul-i add-i mul-f slice-write-f same-length returns)
+store-spec = tie.close (tie.spec mul-i add-i mul-frontier slice-write-frontier same-length returns)

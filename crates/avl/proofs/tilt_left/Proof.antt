@@ -10,7 +10,7 @@ use Rattle.avl.proofs.tilt_left.Statement.{statement}
 use Rattle.avl.proofs.tilt_left.Tie as tie
 
 abbrev Pre : tie.Start → Type 0
-Pre s = FormL (s .args .f .now) (s .args .s)
+Pre s = FormL (s .args .frontier .now) (s .args .s)
 
 get-requires : tie.Need-get-requires
 get-requires c κs = search needs
@@ -28,7 +28,7 @@ a-is c p = c .before .before .high-left .ensures (spot-l p (c .before .before .b
 b-is : (c : tie.After-high-right) → (p : Pre (c .before .before .before .before .before .before .before)) → c .high-right .result ≡ ht (p .b)
 b-is c p = c .high-right .ensures (spot-l p (c .before .before .before .before .get .ensures)) .0
 
-abbrev child : (c : tie.After-rotate-left-arg) → Pre (c .before .before .before .before .before .before .before .before .before) → SpotR (c .before .before .before .before .before .before .before .before .before .args .f .now) (c .before .before .before .before .before .before .get .result)
+abbrev child : (c : tie.After-rotate-left-arg) → Pre (c .before .before .before .before .before .before .before .before .before) → SpotR (c .before .before .before .before .before .before .before .before .before .args .frontier .now) (c .before .before .before .before .before .before .get .result)
 child c p =
     let q = spot-l p (c .before .before .before .before .before .before .get .ensures) in
     record { l = q .l; k = q .k; r = q .r; lo = q .lo; hi = q .hi; held = q .held; has = omega (arith, c .before .if1 .taken, a-is (c .before .before) p, b-is (c .before .before) p) }
@@ -43,7 +43,7 @@ same-length : tie.Need-same-length
 same-length c = search needs
 
 returns : tie.Need-returns
-returns c = form-l (λ l k r lo hi. Laid (c .before .before .before .before .before .before .before .before .before .before .before .before .before .before .before .before .args .f .now) (c .before .before .store .last .0) (c .before .before .before .before .before .before .before .before .before .before .before .before .before .before .before .before .args .s) (tilt-l l) k r lo hi) λ p.
+returns c = form-l (λ l k r lo hi. Laid (c .before .before .before .before .before .before .before .before .before .before .before .before .before .before .before .before .args .frontier .now) (c .before .before .store .last .0) (c .before .before .before .before .before .before .before .before .before .before .before .before .before .before .before .before .args .s) (tilt-l l) k r lo hi) λ p.
     let g = c .before .before .before .before .before .before .before .before .before in
     rw (lt-ltb (ht (p .a)) (ht (p .b)) (omega (arith, c .before .before .before .before .before .before .before .before .if1 .taken, a-is g p, b-is g p)))
     (relaid-l p (g .before .before .before .before .get .ensures) (c .before .before .before .before .before .before .rotate-left .ensures (child (c .before .before .before .before .before .before .before) p)) (c .before .before .store .ensures))
@@ -52,7 +52,7 @@ same-length-2 : tie.Need-same-length-2
 same-length-2 c = search needs
 
 returns-2 : tie.Need-returns-2
-returns-2 c = form-l (λ l k r lo hi. Laid (c .before .before .before .before .before .before .before .before .args .f .now) (c .before .before .before .before .before .before .before .before .args .f .now) (c .before .before .before .before .before .before .before .before .args .s) (tilt-l l) k r lo hi) λ p.
+returns-2 c = form-l (λ l k r lo hi. Laid (c .before .before .before .before .before .before .before .before .args .frontier .now) (c .before .before .before .before .before .before .before .before .args .frontier .now) (c .before .before .before .before .before .before .before .before .args .s) (tilt-l l) k r lo hi) λ p.
     rw (le-ltb (ht (p .a)) (ht (p .b)) (omega (arith, c .if1 .left, a-is (c .before) p, b-is (c .before) p)))
     (laid-same (p .held))
 

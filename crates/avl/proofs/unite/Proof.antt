@@ -11,7 +11,7 @@ use Rattle.avl.proofs.unite.Statement.{statement}
 use Rattle.avl.proofs.unite.Tie as tie
 
 abbrev Pre : tie.Start → Type 0
-Pre s = Pair (s .args .f .now) (s .args .l) (s .args .r)
+Pre s = Pair (s .args .frontier .now) (s .args .l) (s .args .r)
 
 returns : tie.Need-returns
 returns c = λ p. only-r p (c .if1 .taken)
@@ -22,7 +22,7 @@ returns-2 c = λ p. only-l p (c .if2 .taken)
 detach-min-requires : tie.Need-detach-min-requires
 detach-min-requires c κs = full-r (c .before .before .before .before .pre) (c .before .if2 .left)
 
-cut : (c : tie.After-detach-min) (p : Pre (c .before .before .before .before .before)) → Cut (c .before .before .before .before .before .args .f .now) (c .detach-min .last .0) (c .detach-min .result .rest) (c .detach-min .result .least) (p .r) (suc (p .k)) (p .hi)
+cut : (c : tie.After-detach-min) (p : Pre (c .before .before .before .before .before)) → Cut (c .before .before .before .before .before .args .frontier .now) (c .detach-min .last .0) (c .detach-min .result .rest) (c .detach-min .result .least) (p .r) (suc (p .k)) (p .hi)
 cut c p = c .detach-min .ensures (full-r p (c .before .before .if2 .left))
 
 r-has : (c : tie.After-detach-min) (p : Pre (c .before .before .before .before .before)) → 0 < ht (p .r)

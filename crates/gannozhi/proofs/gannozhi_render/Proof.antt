@@ -40,7 +40,7 @@ same-length-8 : tie.Need-same-length-8
 same-length-8 c = c .before .before .before .before .before .before .before .before .before .before .before .before .before .before .before .before .pending .given
 
 same-length-9 : tie.Need-same-length-9
-same-length-9 c = c .before .before .before .before .before .before .before .before .before .before .before .before .before .before .before .slots .given
+same-length-9 c = c .before .before .before .before .before .before .before .before .before .before .before .before .before .before .before .index .given
 
 same-length-10 : tie.Need-same-length-10
 same-length-10 c = c .before .before .before .before .before .before .before .before .before .before .before .before .before .entries .given
@@ -55,16 +55,16 @@ same-length-13 : tie.Need-same-length-13
 same-length-13 c = c .before .before .before .before .before .before .before .before .before .plans .given
 
 same-length-14 : tie.Need-same-length-14
-same-length-14 c = c .before .before .before .before .before .before .before .before .stack .given
+same-length-14 c = c .before .before .before .before .before .before .before .before .visit .given
 
 same-length-15 : tie.Need-same-length-15
-same-length-15 c = c .before .before .before .before .before .before .held .given
+same-length-15 c = c .before .before .before .before .before .before .depth .given
 
 same-length-16 : tie.Need-same-length-16
 same-length-16 c = c .before .before .before .before .output .given
 
 same-length-17 : tie.Need-same-length-17
-same-length-17 c = c .before .before .rows .given
+same-length-17 c = c .before .before .spans .given
 
 returns : tie.Need-returns
 returns c = answered _ _ _ _ _ _ _ (c .before .before .before .before .before .before .before .before .before .before .before .before .before .before .before .before .before .before .before .before .before .before .before .before .before .before .before .render-core .result) (c .before .before .before .before .before .before .before .before .before .before .before .before .before .before .before .before .before .before .before .before .before .before .before .before .before .before .before .before .before .before .before .before .before .before .before .before .before .before .before .before .before .before .before .before .before .bounds-of .ensures) (c .before .before .before .before .before .before .before .before .before .before .before .before .before .before .before .before .before .before .before .before .before .before .before .before .before .before .before .render-core .ensures) (c .before .answer-words .ensures) (c .answer-number .ensures)

@@ -21,7 +21,7 @@ measure-requires c κs =
     let n = a .count in
     let i = a .root .0 in
     let pre = c .before .before .before .before .before .before .pre in
-    (pre .0 .stack-lent, pre .0 .small, cut-planned P n X i (pre .1))
+    (pre .0 .visit-lent, pre .0 .small, cut-planned P n X i (pre .1))
 
 enum-known-m : tie.Need-enum-known-m
 enum-known-m c = search needs
@@ -57,8 +57,8 @@ write-requires c κs =
     let pre = c .before .before .before .before .before .before .before .before .before .before .before .before .before .before .before .before .before .pre in (
       record {
         small = pre .0 .small;
-        stack-lent = omega (arith, pre .0 .stack-lent, c .before .before .before .before .before .before .before .before .before .before .measure .kept);
-        held-lent = pre .0 .held-lent;
+        visit-lent = omega (arith, pre .0 .visit-lent, c .before .before .before .before .before .before .before .before .before .before .measure .kept);
+        depth-lent = pre .0 .depth-lent;
         output-lent = pre .0 .output-lent;
         spans-lent = pre .0 .spans-lent;
       },

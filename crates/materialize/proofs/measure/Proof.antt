@@ -26,35 +26,35 @@ returns c = let a = c .before .before .before .args in λ bytes ib. none-fits (a
 word-of-requires : tie.Need-word-of-requires Inv-loop μ-loop
 word-of-requires c κs = search needs
 
-slice-write-stack : tie.Need-slice-write-stack Inv-loop μ-loop
-slice-write-stack c = omega (arith, c .before .before .before .before .pre .0, c .before .if1 .left)
+slice-write-visit : tie.Need-slice-write-visit Inv-loop μ-loop
+slice-write-visit c = omega (arith, c .before .before .before .before .pre .0, c .before .if1 .left)
 
 loop-holds : tie.Need-loop-holds Inv-loop μ-loop
 loop-holds c =
     let a = c .before .before .before .before .args in
     let v : 0 < a .capacity .visit = omega (arith, c .before .if1 .left) in
-    let h : 0 < length (a .stack .now) = omega (arith, c .before .before .before .before .pre .0) in
+    let h : 0 < length (a .visit .now) = omega (arith, c .before .before .before .before .pre .0) in
     rw (c .word-of .ensures .0) (
       refl,
-      sound-begin (a .capacity) (length (a .plans .now)) (a .stack .now) (a .root .0) v h (c .before .before .before .before .pre .2 .rooted),
-      λ o bytes ib. along-begin (a .capacity) o (a .plans .now) (a .texts .now) bytes (a .root .0) (a .stack .now) v h,
+      sound-begin (a .capacity) (length (a .plans .now)) (a .visit .now) (a .root .0) v h (c .before .before .before .before .pre .2 .rooted),
+      λ o bytes ib. along-begin (a .capacity) o (a .plans .now) (a .texts .now) bytes (a .root .0) (a .visit .now) v h,
     )
 
 same-length : tie.Need-same-length Inv-loop μ-loop
-same-length c = c .before .before .before .before .before .loop .inv .0 ∙ length-set (c .before .before .before .before .before .before .before .before .before .before .args .stack .now) 0 (c .before .before .before .before .before .before .word-of .result)
+same-length c = c .before .before .before .before .before .loop .inv .0 ∙ length-set (c .before .before .before .before .before .before .before .before .before .before .args .visit .now) 0 (c .before .before .before .before .before .before .word-of .result)
 
 returns-2 : tie.Need-returns-2 Inv-loop μ-loop
 returns-2 c =
     let a = c .before .before .before .before .before .before .before .before .before .before .args in
     let l = c .before .before .before .before .before .loop in
     λ bytes ib. along-stop (a .capacity) (a .plans .now) (a .texts .now) bytes (a .root .0) _ (l .w) _ _ _ (λ o. l .inv .2 o bytes ib)
-    (λ o. spent (a .capacity) o (a .plans .now) (a .texts .now) bytes (l .stack) (l .w) (l .w .top - 1) (omega (arith, c .before .before .before .if2 .taken)) (c .if3 .taken))
+    (λ o. spent (a .capacity) o (a .plans .now) (a .texts .now) bytes (l .visit) (l .w) (l .w .top - 1) (omega (arith, c .before .before .before .if2 .taken)) (c .if3 .taken))
 
 visit-item-requires : tie.Need-visit-item-requires Inv-loop μ-loop
 visit-item-requires c κs = (
   record {
     some-left = c .before .before .before .before .if2 .taken;
-    stack-lent = omega (arith, c .before .before .before .before .before .before .before .before .before .before .before .pre .0, c .before .before .before .before .before .before .loop .inv .0, length-set (c .before .before .before .before .before .before .before .before .before .before .before .args .stack .now) 0 (c .before .before .before .before .before .before .before .word-of .result));
+    visit-lent = omega (arith, c .before .before .before .before .before .before .before .before .before .before .before .pre .0, c .before .before .before .before .before .before .loop .inv .0, length-set (c .before .before .before .before .before .before .before .before .before .before .before .args .visit .now) 0 (c .before .before .before .before .before .before .before .word-of .result));
     small = c .before .before .before .before .before .before .before .before .before .before .before .pre .1;
     few = c .before .before .before .before .before .before .before .before .before .before .before .pre .2 .few;
     ranked = c .before .before .before .before .before .before .before .before .before .before .before .pre .2 .ranked;
@@ -68,7 +68,7 @@ enum-known-s : tie.Need-enum-known-s Inv-loop μ-loop
 enum-known-s c = search needs
 
 same-length-2 : tie.Need-same-length-2 Inv-loop μ-loop
-same-length-2 c = omega (arith, c .before .before .before .before .before .before .before .before .before .before .before .before .loop .inv .0, c .before .before .before .before .before .visit-item .kept, length-set (c .before .before .before .before .before .before .before .before .before .before .before .before .before .before .before .before .before .args .stack .now) 0 (c .before .before .before .before .before .before .before .before .before .before .before .before .before .word-of .result))
+same-length-2 c = omega (arith, c .before .before .before .before .before .before .before .before .before .before .before .before .loop .inv .0, c .before .before .before .before .before .visit-item .kept, length-set (c .before .before .before .before .before .before .before .before .before .before .before .before .before .before .before .before .before .args .visit .now) 0 (c .before .before .before .before .before .before .before .before .before .before .before .before .before .word-of .result))
 
 returns-3 : tie.Need-returns-3 Inv-loop μ-loop
 returns-3 c =
@@ -79,7 +79,7 @@ returns-3 c =
     let r = c .before .before .before .before .before .visit-item .result in
     let x = c .before .before .before .before .before .visit-item .last .1 .1 .1 .1 .1 .0 in
     λ bytes ib. along-stop (a .capacity) P X bytes (a .root .0) _ (l .w) _ _ _ (λ o. l .inv .2 o bytes ib)
-    (λ o. turned-stopped (a .capacity) o P X bytes (l .stack) x (l .w) _ _ _ r (c .before .before .before .before .before .visit-item .ensures o bytes ib) (c .before .s .given .1))
+    (λ o. turned-stopped (a .capacity) o P X bytes (l .visit) x (l .w) _ _ _ r (c .before .before .before .before .before .visit-item .ensures o bytes ib) (c .before .s .given .1))
 
 enum-known-s-2 : tie.Need-enum-known-s-2 Inv-loop μ-loop
 enum-known-s-2 c = search needs
@@ -92,7 +92,7 @@ loop-less c =
     let l = c .before .before .before .before .before .before .before .before .before .before .before .before .loop in
     let r = c .before .before .before .before .before .visit-item .result in
     let x = c .before .before .before .before .before .visit-item .last .1 .1 .1 .1 .1 .0 in
-    let g = turned-went (a .capacity) some-around P X (some-bytes X) (l .stack) x (l .w) _ _ r (c .before .before .before .before .before .visit-item .ensures some-around (some-bytes X) (in-some X)) (c .before .s2 .given .1) in
+    let g = turned-went (a .capacity) some-around P X (some-bytes X) (l .visit) x (l .w) _ _ r (c .before .before .before .before .before .visit-item .ensures some-around (some-bytes X) (in-some X)) (c .before .s2 .given .1) in
     omega (arith, g .moved .counted, g .sound .visits-le)
 
 loop-again : tie.Need-loop-again Inv-loop μ-loop
@@ -103,20 +103,20 @@ loop-again c =
     let l = c .before .before .before .before .before .before .before .before .before .before .before .before .loop in
     let r = c .before .before .before .before .before .visit-item .result in
     let x = c .before .before .before .before .before .visit-item .last .1 .1 .1 .1 .1 .0 in
-    let g = turned-went (a .capacity) some-around P X (some-bytes X) (l .stack) x (l .w) _ _ r (c .before .before .before .before .before .visit-item .ensures some-around (some-bytes X) (in-some X)) (c .before .s2 .given .1) in (
+    let g = turned-went (a .capacity) some-around P X (some-bytes X) (l .visit) x (l .w) _ _ r (c .before .before .before .before .before .visit-item .ensures some-around (some-bytes X) (in-some X)) (c .before .s2 .given .1) in (
       omega (arith, l .inv .0, c .before .before .before .before .before .visit-item .kept),
       g .sound,
-      λ o bytes ib. along-step (l .inv .2 o bytes ib) (turned-went (a .capacity) o P X bytes (l .stack) x (l .w) _ _ r (c .before .before .before .before .before .visit-item .ensures o bytes ib) (c .before .s2 .given .1)),
+      λ o bytes ib. along-step (l .inv .2 o bytes ib) (turned-went (a .capacity) o P X bytes (l .visit) x (l .w) _ _ r (c .before .before .before .before .before .visit-item .ensures o bytes ib) (c .before .s2 .given .1)),
     )
 
 same-length-3 : tie.Need-same-length-3 Inv-loop μ-loop
-same-length-3 c = c .before .before .loop .inv .0 ∙ length-set (c .before .before .before .before .before .before .before .args .stack .now) 0 (c .before .before .before .word-of .result)
+same-length-3 c = c .before .before .loop .inv .0 ∙ length-set (c .before .before .before .before .before .before .before .args .visit .now) 0 (c .before .before .before .word-of .result)
 
 returns-4 : tie.Need-returns-4 Inv-loop μ-loop
 returns-4 c =
     let a = c .before .before .before .before .before .before .before .args in
     let l = c .before .before .loop in
-    λ bytes ib. along-end (a .capacity) (a .plans .now) (a .texts .now) bytes (a .root .0) (l .stack) (l .w) (λ o. l .inv .2 o bytes ib) (omega (arith, c .if2 .left))
+    λ bytes ib. along-end (a .capacity) (a .plans .now) (a .texts .now) bytes (a .root .0) (l .visit) (l .w) (λ o. l .inv .2 o bytes ib) (omega (arith, c .if2 .left))
 
 pub measure-spec : {M : Type 1} → statement M
 measure-spec =
@@ -126,7 +126,7 @@ measure-spec =
     μ-loop
     returns
     word-of-requires
-    slice-write-stack
+    slice-write-visit
     loop-holds
     same-length
     returns-2

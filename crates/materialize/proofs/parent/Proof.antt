@@ -18,10 +18,10 @@ shared-slice-read-result : tie.Need-shared-slice-read-result
 shared-slice-read-result c = search needs
 
 add-result : tie.Need-add-result
-add-result c = omega (arith, under-top (2 ^ 32) (c .before .before .args .held .now) (c .before .before .args .depth) (c .before .before .args .depth - 1) (omega (arith, c .before .if1 .left)) (c .before .before .pre .1))
+add-result c = omega (arith, under-top (2 ^ 32) (c .before .before .args .depth .now) (c .before .before .args .level) (c .before .before .args .level - 1) (omega (arith, c .before .if1 .left)) (c .before .before .pre .1))
 
 returns-2 : tie.Need-returns-2
-returns-2 c = parent-is (c .before .before .args .held .now) (c .before .before .args .depth) (c .before .before .args .depth - 1) (omega (arith, c .before .if1 .left))
+returns-2 c = parent-is (c .before .before .args .depth .now) (c .before .before .args .level) (c .before .before .args .level - 1) (omega (arith, c .before .if1 .left))
 
 pub parent-spec : {M : Type 1} → statement M
 parent-spec =

@@ -16,11 +16,11 @@ mul-t17 c = search needs
 slice-set-from-spans : tie.Need-slice-set-from-spans
 slice-set-from-spans c = search needs
 
-mul-held : tie.Need-mul-held
-mul-held c = search needs
+mul-depth : tie.Need-mul-depth
+mul-depth c = search needs
 
-slice-write-held : tie.Need-slice-write-held
-slice-write-held c = search needs
+slice-write-depth : tie.Need-slice-write-depth
+slice-write-depth c = search needs
 
 same-length : tie.Need-same-length
 same-length c = search needs
@@ -39,8 +39,8 @@ push-open-span-spec =
     cast-t12
     mul-t17
     slice-set-from-spans
-    mul-held
-    slice-write-held
+    mul-depth
+    slice-write-depth
     same-length
     same-length-2
     returns)

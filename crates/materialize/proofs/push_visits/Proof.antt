@@ -16,20 +16,20 @@ exceeds-requires c κs = λ f. passed _ _ _ _ _ (c .before .pre .3 f) .0
 returns : tie.Need-returns
 returns c = rw (lt-leb _ _ (c .before .exceeds .ensures .0 (c .if1 .taken))) (refl, refl)
 
-mul-stack : tie.Need-mul-stack
-mul-stack c = search needs
+mul-visit : tie.Need-mul-visit
+mul-visit c = search needs
 
-slice-write-stack : tie.Need-slice-write-stack
-slice-write-stack c = omega (arith, c .before .exceeds .ensures .1 (c .if1 .left), c .before .before .before .pre .1)
+slice-write-visit : tie.Need-slice-write-visit
+slice-write-visit c = omega (arith, c .before .exceeds .ensures .1 (c .if1 .left), c .before .before .before .pre .1)
 
-add-stack : tie.Need-add-stack
-add-stack c = search needs
+add-visit : tie.Need-add-visit
+add-visit c = search needs
 
-mul-stack-2 : tie.Need-mul-stack-2
-mul-stack-2 c = search needs
+mul-visit-2 : tie.Need-mul-visit-2
+mul-visit-2 c = search needs
 
-slice-write-stack-2 : tie.Need-slice-write-stack-2
-slice-write-stack-2 c = simp length-set (omega (arith, c .before .exceeds .ensures .1 (c .if1 .left), c .before .before .before .pre .1))
+slice-write-visit-2 : tie.Need-slice-write-visit-2
+slice-write-visit-2 c = simp length-set (omega (arith, c .before .exceeds .ensures .1 (c .if1 .left), c .before .before .before .pre .1))
 
 same-length : tie.Need-same-length
 same-length c = search needs
@@ -44,10 +44,10 @@ push-visits-spec =
     add-needed
     exceeds-requires
     returns
-    mul-stack
-    slice-write-stack
-    add-stack
-    mul-stack-2
-    slice-write-stack-2
+    mul-visit
+    slice-write-visit
+    add-visit
+    mul-visit-2
+    slice-write-visit-2
     same-length
     returns-2)

@@ -23,14 +23,14 @@ abbrev μ-loop : tie.MeasureT-loop
 word-of-requires : tie.Need-word-of-requires Inv-loop μ-loop
 word-of-requires c κs = search needs
 
-slice-write-stack : tie.Need-slice-write-stack Inv-loop μ-loop
-slice-write-stack c =
+slice-write-visit : tie.Need-slice-write-visit Inv-loop μ-loop
+slice-write-visit c =
     let a = c .before .before .before .before .before .args in
     let P = a .plans .now in
     let X = a .texts .now in
     let b = a .bytes .now in
     let pre = c .before .before .before .before .before .pre in
-    omega (arith, pre .0 .stack-lent, some-visit (a .capacity) (plan P X b (a .root .0)) (pre .3))
+    omega (arith, pre .0 .visit-lent, some-visit (a .capacity) (plan P X b (a .root .0)) (pre .3))
 
 loop-holds : tie.Need-loop-holds Inv-loop μ-loop
 loop-holds c =
@@ -40,24 +40,24 @@ loop-holds c =
     let b = a .bytes .now in
     let pre = c .before .before .before .before .before .pre in
     let vis = some-visit (a .capacity) (plan P X b (a .root .0)) (pre .3) in
-    let h : 0 < length (a .stack .now) = omega (arith, pre .0 .stack-lent, vis) in
+    let h : 0 < length (a .visit .now) = omega (arith, pre .0 .visit-lent, vis) in
     rw (c .word-of .ensures .0) (
       refl,
       refl,
       refl,
       refl,
-      sound-begin (a .capacity) (length P) (a .stack .now) (a .root .0) vis h (pre .1 .rooted),
-      writing-begin (a .capacity) P X b (a .root .0) (a .stack .now) (a .output .now) (a .held .now) (a .spans .now) (pre .3) h,
+      sound-begin (a .capacity) (length P) (a .visit .now) (a .root .0) vis h (pre .1 .rooted),
+      writing-begin (a .capacity) P X b (a .root .0) (a .visit .now) (a .output .now) (a .depth .now) (a .spans .now) (pre .3) h,
     )
 
 visit-item-requires : tie.Need-visit-item-requires Inv-loop μ-loop
 visit-item-requires c κs =
     let pre = c .before .before .before .before .before .before .before .before .before .pre in
     let l = c .before .before .before .loop in
-    let h = passing (l .stack) (l .inv .5) (pre .2) in (
+    let h = passing (l .visit) (l .inv .5) (pre .2) in (
       record {
         some-left = c .before .if1 .taken;
-        stack-lent = omega (arith, pre .0 .stack-lent, l .inv .0, length-set (c .before .before .before .before .before .before .before .before .before .args .stack .now) 0 (c .before .before .before .before .word-of .result));
+        visit-lent = omega (arith, pre .0 .visit-lent, l .inv .0, length-set (c .before .before .before .before .before .before .before .before .before .args .visit .now) 0 (c .before .before .before .before .word-of .result));
         small = pre .0 .small;
         few = pre .1 .few;
         ranked = pre .1 .ranked;
@@ -71,7 +71,7 @@ enum-told : tie.Need-enum-told Inv-loop μ-loop
 enum-told c = search needs
 
 same-length : tie.Need-same-length Inv-loop μ-loop
-same-length c = omega (arith, c .before .before .before .before .before .before .before .before .loop .inv .0, c .before .before .before .before .visit-item .kept, length-set (c .before .before .before .before .before .before .before .before .before .before .before .before .before .before .args .stack .now) 0 (c .before .before .before .before .before .before .before .before .before .word-of .result))
+same-length c = omega (arith, c .before .before .before .before .before .before .before .before .loop .inv .0, c .before .before .before .before .visit-item .kept, length-set (c .before .before .before .before .before .before .before .before .before .before .before .before .before .before .args .visit .now) 0 (c .before .before .before .before .before .before .before .before .before .word-of .result))
 
 same-length-2 : tie.Need-same-length-2 Inv-loop μ-loop
 same-length-2 c = c .before .before .before .before .before .before .before .before .loop .inv .1
@@ -94,7 +94,7 @@ returns c =
     let v = l .inv in
     let r = c .before .before .before .before .visit-item .result in
     let x = c .before .before .before .before .visit-item .last .1 .1 .1 .1 .1 .0 in
-    absurd (no-stop (passing (l .stack) (v .5) (pre .2)) x r (c .before .before .before .before .visit-item .ensures (v .5 .around) b (pre .2)) (c .enum-told .given .1))
+    absurd (no-stop (passing (l .visit) (v .5) (pre .2)) x r (c .before .before .before .before .visit-item .ensures (v .5 .around) b (pre .2)) (c .enum-told .given .1))
 
 enum-known-s : tie.Need-enum-known-s Inv-loop μ-loop
 enum-known-s c = search needs
@@ -111,8 +111,8 @@ perform-requires c κs =
     let v = l .inv in
     let r = c .before .before .before .before .before .before .before .before .visit-item .result in
     let x = c .before .before .before .before .before .before .before .before .visit-item .last .1 .1 .1 .1 .1 .0 in
-    let g = turned-went (a .capacity) (v .5 .around) P X b (l .stack) x w _ _ r (c .before .before .before .before .before .before .before .before .visit-item .ensures (v .5 .around) b (pre .2)) (c .before .before .before .before .s .given .1) in
-    allowed (v .5) g (v .4) (omega (arith, v .2, pre .0 .output-lent)) (omega (arith, v .1, pre .0 .held-lent)) (omega (arith, v .3, pre .0 .spans-lent)) (pre .0 .small .spans-fits)
+    let g = turned-went (a .capacity) (v .5 .around) P X b (l .visit) x w _ _ r (c .before .before .before .before .before .before .before .before .visit-item .ensures (v .5 .around) b (pre .2)) (c .before .before .before .before .s .given .1) in
+    allowed (v .5) g (v .4) (omega (arith, v .2, pre .0 .output-lent)) (omega (arith, v .1, pre .0 .depth-lent)) (omega (arith, v .3, pre .0 .spans-lent)) (pre .0 .small .spans-fits)
 
 loop-less : tie.Need-loop-less Inv-loop μ-loop
 loop-less c =
@@ -126,7 +126,7 @@ loop-less c =
     let v = l .inv in
     let r = c .before .before .before .before .before .before .before .before .before .before .before .before .before .before .visit-item .result in
     let x = c .before .before .before .before .before .before .before .before .before .before .before .before .before .before .visit-item .last .1 .1 .1 .1 .1 .0 in
-    let g = turned-went (a .capacity) (v .5 .around) P X b (l .stack) x w _ _ r (c .before .before .before .before .before .before .before .before .before .before .before .before .before .before .visit-item .ensures (v .5 .around) b (pre .2)) (c .before .before .before .before .before .before .before .before .before .before .s .given .1) in
+    let g = turned-went (a .capacity) (v .5 .around) P X b (l .visit) x w _ _ r (c .before .before .before .before .before .before .before .before .before .before .before .before .before .before .visit-item .ensures (v .5 .around) b (pre .2)) (c .before .before .before .before .before .before .before .before .before .before .s .given .1) in
     omega (arith, g .moved .counted, g .sound .visits-le)
 
 loop-again : tie.Need-loop-again Inv-loop μ-loop
@@ -141,18 +141,18 @@ loop-again c =
     let v = l .inv in
     let r = c .before .before .before .before .before .before .before .before .before .before .before .before .before .before .visit-item .result in
     let x = c .before .before .before .before .before .before .before .before .before .before .before .before .before .before .visit-item .last .1 .1 .1 .1 .1 .0 in
-    let g = turned-went (a .capacity) (v .5 .around) P X b (l .stack) x w _ _ r (c .before .before .before .before .before .before .before .before .before .before .before .before .before .before .visit-item .ensures (v .5 .around) b (pre .2)) (c .before .before .before .before .before .before .before .before .before .before .s .given .1) in
-    let st = writing-step (v .5) g (v .4) (omega (arith, v .2, pre .0 .output-lent)) (omega (arith, v .1, pre .0 .held-lent)) (omega (arith, v .3, pre .0 .spans-lent)) (pre .0 .small .spans-fits) (c .before .before .before .before .before .perform .ensures .fits) in (
+    let g = turned-went (a .capacity) (v .5 .around) P X b (l .visit) x w _ _ r (c .before .before .before .before .before .before .before .before .before .before .before .before .before .before .visit-item .ensures (v .5 .around) b (pre .2)) (c .before .before .before .before .before .before .before .before .before .before .s .given .1) in
+    let st = writing-step (v .5) g (v .4) (omega (arith, v .2, pre .0 .output-lent)) (omega (arith, v .1, pre .0 .depth-lent)) (omega (arith, v .3, pre .0 .spans-lent)) (pre .0 .small .spans-fits) (c .before .before .before .before .before .perform .ensures .fits) in (
       omega (arith, v .0, c .before .before .before .before .before .before .before .before .before .before .before .before .before .before .visit-item .kept),
       omega (arith, v .1, c .before .before .before .before .before .perform .kept),
       omega (arith, v .2, c .before .before .before .before .before .perform .kept),
       omega (arith, v .3, c .before .before .before .before .before .perform .kept),
       g .sound,
-      rw (c .before .before .before .before .before .perform .ensures .output-is, c .before .before .before .before .before .perform .ensures .held-is, c .before .before .before .before .before .perform .ensures .spans-is) st,
+      rw (c .before .before .before .before .before .perform .ensures .output-is, c .before .before .before .before .before .perform .ensures .depth-is, c .before .before .before .before .before .perform .ensures .spans-is) st,
     )
 
 same-length-5 : tie.Need-same-length-5 Inv-loop μ-loop
-same-length-5 c = c .before .before .loop .inv .0 ∙ length-set (c .before .before .before .before .before .before .before .before .args .stack .now) 0 (c .before .before .before .word-of .result)
+same-length-5 c = c .before .before .loop .inv .0 ∙ length-set (c .before .before .before .before .before .before .before .before .args .visit .now) 0 (c .before .before .before .word-of .result)
 
 same-length-6 : tie.Need-same-length-6 Inv-loop μ-loop
 same-length-6 c = c .before .before .loop .inv .1
@@ -174,7 +174,7 @@ returns-2 c =
     let w = l .w in
     let v = l .inv in
     let q : w .top ≡ 0 = omega (arith, c .if1 .left) in
-    written-end (l .stack) (v .5) q (omega (arith, v .2, pre .0 .output-lent, v .4 .at-le)) (omega (arith, v .3, pre .0 .spans-lent, v .4 .spans-le))
+    written-end (l .visit) (v .5) q (omega (arith, v .2, pre .0 .output-lent, v .4 .at-le)) (omega (arith, v .3, pre .0 .spans-lent, v .4 .spans-le))
 
 pub write-spec : {M : Type 1} → statement M
 write-spec =
@@ -183,7 +183,7 @@ write-spec =
     Inv-loop
     μ-loop
     word-of-requires
-    slice-write-stack
+    slice-write-visit
     loop-holds
     visit-item-requires
     enum-told

@@ -26,7 +26,7 @@ sub-s c = omega (arith, positive (c .before .before .pre .1))
 
 loop-holds : tie.Need-loop-holds Inv-loop μ-loop
 loop-holds c =
-    let m = length (c .before .before .args .slots .now) in
+    let m = length (c .before .before .args .index .now) in
     (omega arith, (start-low (c .memo-hash .result) m (c .before .before .pre .1), (start (c .memo-hash .result) (hashOf (c .before .before .args .key)) m (c .before .before .pre .1) (c .memo-hash .ensures), λ j h. absurd (omega arith))))
 
 named-requires : tie.Need-named-requires Inv-loop μ-loop
@@ -52,7 +52,7 @@ loop-less c = omega arith
 
 loop-again : tie.Need-loop-again Inv-loop μ-loop
 loop-again c =
-    let ss = c .before .before .before .before .before .before .before .before .before .args .slots .now in
+    let ss = c .before .before .before .before .before .before .before .before .before .args .index .now in
     let es = c .before .before .before .before .before .before .before .before .before .args .entries .now in
     let h = hashOf (c .before .before .before .before .before .before .before .before .before .args .key) in
     let e = c .before .before .before .before .before .before .loop .inv .1 .1 .0 in (

@@ -44,12 +44,12 @@ use denote.Triple.Walked.{says, Stays, stay-dropped, stay-slice, gave-ref, gave-
 use denote.Exit.{yes}
 use Rattle.stats.specs.declared.SolveStats.{SolveStats}
 use Rattle.stats.proofs.SolveStats as T
-use Rattle.workspace.specs.declared.RenderOptions.{RenderOptions}
-use Rattle.workspace.specs.declared.Bounds.{Bounds}
-use Rattle.workspace.proofs.RenderOptions as S
-use Rattle.workspace.proofs.RenderOptions.Laws as S′
-use Rattle.workspace.proofs.Bounds as B
-use Rattle.workspace.proofs.Bounds.Laws as B′
+use Rattle.solve_workspace.specs.declared.RenderOptions.{RenderOptions}
+use Rattle.solve_workspace.specs.declared.Bounds.{Bounds}
+use Rattle.solve_workspace.proofs.RenderOptions as S
+use Rattle.solve_workspace.proofs.RenderOptions.Laws as S′
+use Rattle.solve_workspace.proofs.Bounds as B
+use Rattle.solve_workspace.proofs.Bounds.Laws as B′
 use Rattle.spans.specs.declared.AnnotationSpan.{AnnotationSpan}
 use Rattle.spans.specs.Spans.{laid}
 use Rattle.spans.proofs.AnnotationSpan as P

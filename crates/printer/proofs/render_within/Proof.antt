@@ -37,7 +37,7 @@ same-length-8 : tie.Need-same-length-8
 same-length-8 c = c .before .before .before .before .before .before .before .before .before .before .before .before .before .before .pending .given
 
 same-length-9 : tie.Need-same-length-9
-same-length-9 c = c .before .before .before .before .before .before .before .before .before .before .before .before .before .slots .given
+same-length-9 c = c .before .before .before .before .before .before .before .before .before .before .before .before .before .index .given
 
 same-length-10 : tie.Need-same-length-10
 same-length-10 c = c .before .before .before .before .before .before .before .before .before .before .before .entries .given
@@ -52,10 +52,10 @@ same-length-13 : tie.Need-same-length-13
 same-length-13 c = c .before .before .before .before .before .before .before .plans .given
 
 same-length-14 : tie.Need-same-length-14
-same-length-14 c = c .before .before .before .before .before .before .stack .given
+same-length-14 c = c .before .before .before .before .before .before .visit .given
 
 same-length-15 : tie.Need-same-length-15
-same-length-15 c = c .before .before .before .before .held .given
+same-length-15 c = c .before .before .before .before .depth .given
 
 same-length-16 : tie.Need-same-length-16
 same-length-16 c = c .before .before .output .given

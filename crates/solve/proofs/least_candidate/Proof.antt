@@ -2,7 +2,7 @@ use Rattle.solve.proofs.Least.{least-starts, least-goes, least-ends}
 use Rattle.solve.specs.Outcome.{least-of}
 use Rattle.machine.specs.Model.{part}
 use Rattle.machine.specs.Solve.{least-key}
-use Rattle.workspace.specs.Rows.{candidate, candidate-of, row-list}
+use Rattle.solve_workspace.specs.Rows.{candidate, candidate-of, row-list}
 use Prim.Native.Nat.{_+_, _-_, _≤_}
 use mathlib.Core.Path.{_≡_, refl}
 use native.Mathlib.Omega.{arith}

@@ -1,5 +1,5 @@
 use Rattle.solve.proofs.Least.{less-is, first-is, later-is, more-is}
-use Rattle.workspace.specs.Rows.{candidate}
+use Rattle.solve_workspace.specs.Rows.{candidate}
 use mathlib.Core.Path.{sym, _∙_}
 use native.Mathlib.Omega.{arith}
 use borrow.Author.Needs.{needs}

@@ -1,10 +1,10 @@
 use Rattle.solve.proofs.Arranging.{arranged}
 use Rattle.solve.proofs.Starts.{topped, solved, refused}
 use Rattle.solve.specs.Accepts.{ready}
-use Rattle.workspace.specs.Meets.{Sound}
-use Rattle.workspace.specs.Reading.{prepared, tables, rules}
-use Rattle.workspace.specs.Runs.{ok}
-use Rattle.workspace.specs.Stores.{went, halted}
+use Rattle.solve_workspace.specs.Meets.{Sound}
+use Rattle.solve_workspace.specs.Reading.{prepared, tables, rules}
+use Rattle.solve_workspace.specs.Runs.{ok}
+use Rattle.solve_workspace.specs.Stores.{went, halted}
 use mathlib.Core.List.{[]}
 use mathlib.Core.Path.{refl}
 use native.Mathlib.Omega.{arith}
@@ -46,7 +46,7 @@ same-length-3 : tie.Need-same-length-3
 same-length-3 c = c .before .before .before .before .before .before .before .before .before .before .before .before .pending .given
 
 same-length-4 : tie.Need-same-length-4
-same-length-4 c = c .before .before .before .before .before .before .before .before .before .before .before .slots .given
+same-length-4 c = c .before .before .before .before .before .before .before .before .before .before .before .index .given
 
 same-length-5 : tie.Need-same-length-5
 same-length-5 c = c .before .before .before .before .before .before .before .before .before .entries .given
@@ -73,7 +73,7 @@ same-length-11 : tie.Need-same-length-11
 same-length-11 c = c .before .before .before .before .before .before .before .before .before .before .before .before .before .before .pending .given
 
 same-length-12 : tie.Need-same-length-12
-same-length-12 c = c .before .before .before .before .before .before .before .before .before .before .before .before .before .slots .given
+same-length-12 c = c .before .before .before .before .before .before .before .before .before .before .before .before .before .index .given
 
 same-length-13 : tie.Need-same-length-13
 same-length-13 c = c .before .before .before .before .before .before .before .before .before .before .before .entries .given

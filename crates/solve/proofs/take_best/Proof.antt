@@ -1,5 +1,5 @@
 use Rattle.solve.proofs.Starts.{popped-len, best-is}
-use Rattle.workspace.specs.Lent.{regs}
+use Rattle.solve_workspace.specs.Lent.{regs}
 use mathlib.Core.List.{[]}
 use native.Mathlib.Omega.{arith}
 use borrow.Author.Needs.{needs}

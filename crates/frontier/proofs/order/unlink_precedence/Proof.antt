@@ -7,7 +7,7 @@ use Rattle.frontier.proofs.order.unlink_precedence.Statement.{statement
 use Rattle.frontier.proofs.order.unlink_precedence.Tie as tie
 
 abbrev Pre : tie.Start → Type 0
-Pre s = Within (s .args .f .now) (s .args .s) (s .args .ends .head) (s .args .ends .tail)
+Pre s = Within (s .args .frontier .now) (s .args .s) (s .args .ends .head) (s .args .ends .tail)
 
 get-requires : tie.Need-get-requires
 get-requires c κs = (w-at (c .before .before .pre), lit< tt)
@@ -18,7 +18,7 @@ get-requires-2 c κs = (w-at (c .before .before .before .before .pre), lit< tt)
 set-next-requires : tie.Need-set-next-requires
 set-next-requires c κs = before-at (c .before .before .before .before .before .before .pre) (c .before .before .before .get .ensures)
 
-one : (c : tie.After-set-next) (p : Pre (c .before .before .before .before .before .before .before)) → Fronted (c .before .before .before .before .before .before .before .args .f .now) (c .set-next .last .0) (c .set-next .result) (p .ys) (c .before .before .before .before .get .result) (c .before .before .get2 .result)
+one : (c : tie.After-set-next) (p : Pre (c .before .before .before .before .before .before .before)) → Fronted (c .before .before .before .before .before .before .before .args .frontier .now) (c .set-next .last .0) (c .set-next .result) (p .ys) (c .before .before .before .before .get .result) (c .before .before .get2 .result)
 one c p = un-one p (c .before .before .before .before .get .ensures) (c .set-next .ensures)
 
 set-previous-requires : tie.Need-set-previous-requires

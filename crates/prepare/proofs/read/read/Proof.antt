@@ -4,14 +4,14 @@ use borrow.Author.Needs.{needs}
 use Rattle.prepare.proofs.read.read.Statement.{statement}
 use Rattle.prepare.proofs.read.read.Tie as tie
 
-lent-requires : tie.Need-lent-requires
-lent-requires c κs = search needs
+tables-lent-requires : tie.Need-tables-lent-requires
+tables-lent-requires c κs = search needs
 
 returns : tie.Need-returns
-returns c = order (c .before .lent .ensures .no (not-true _ (c .if1 .taken)))
+returns c = order (c .before .tables-lent .ensures .no (not-true _ (c .if1 .taken)))
 
 read-lent-requires : tie.Need-read-lent-requires
-read-lent-requires c κs = c .before .before .before .before .before .before .lent .ensures .yes (not-false _ (c .before .before .before .before .before .if1 .left))
+read-lent-requires c κs = c .before .before .before .before .before .before .tables-lent .ensures .yes (not-false _ (c .before .before .before .before .before .if1 .left))
 
 same-length : tie.Need-same-length
 same-length c = search needs
@@ -35,7 +35,7 @@ pub read-spec : {M : Type 1} → statement M
 read-spec =
     tie.close
     (tie.spec
-    lent-requires
+    tables-lent-requires
     returns
     read-lent-requires
     same-length

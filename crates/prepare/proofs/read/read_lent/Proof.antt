@@ -1,11 +1,11 @@
-use lib.ListN.{length, take}
+use lib.ListN.{length}
 use lib.Seq.{length-take-le}
 use Prim.Native.Nat.{_≤_}
 use denote.Ref.{now}
-use mathlib.Core.Path.{_≡_, refl, sym, _∙_}
+use mathlib.Core.Path.{_≡_, sym}
 use native.Mathlib.Omega.{arith}
-use Rattle.encode.specs.Fields.{Bytes}
-use Rattle.prepare.proofs.Reading.{well, bounds, formed, few, answer-ill, answer-wrong, answer-right}
+use Rattle.file_encode.specs.Fields.{Bytes}
+use Rattle.prepare.proofs.Reading.{bounds, formed, few, answer-ill, answer-wrong, answer-right}
 use borrow.Author.Needs.{needs}
 use Rattle.prepare.proofs.read.read_lent.Statement.{statement}
 use Rattle.prepare.proofs.read.read_lent.Tie as tie

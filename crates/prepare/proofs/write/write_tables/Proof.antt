@@ -1,5 +1,5 @@
 use denote.Ref.{now}
-use mathlib.Core.Path.{_≡_, refl, sym, _∙_}
+use mathlib.Core.Path.{refl, sym, _∙_}
 use Rattle.prepare.specs.Writing.{wrong}
 use Rattle.prepare.proofs.Written.{answer-ill, formed-by, choices-few}
 use borrow.Author.Needs.{needs}

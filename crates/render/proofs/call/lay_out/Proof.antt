@@ -1,7 +1,7 @@
 use mathlib.Core.Path.{refl}
 use denote.Ref.{now}
-use Rattle.rules.specs.Judged.{tables}
-use Rattle.workspace.specs.Reading.{rules}
+use Rattle.file_checks.specs.Judged.{tables}
+use Rattle.solve_workspace.specs.Reading.{rules}
 use Rattle.render.proofs.Stages.{found-arranged, found-unvisited, laid-refused, laid-page}
 use borrow.Author.Needs.{needs}
 use Rattle.render.proofs.call.lay_out.Statement.{statement}
@@ -26,7 +26,7 @@ same-length-3 : tie.Need-same-length-3
 same-length-3 c = c .before .before .before .before .before .before .before .before .before .before .before .pending .given
 
 same-length-4 : tie.Need-same-length-4
-same-length-4 c = c .before .before .before .before .before .before .before .before .before .before .slots .given
+same-length-4 c = c .before .before .before .before .before .before .before .before .before .before .index .given
 
 same-length-5 : tie.Need-same-length-5
 same-length-5 c = c .before .before .before .before .before .before .before .before .entries .given
@@ -62,7 +62,7 @@ same-length-11 : tie.Need-same-length-11
 same-length-11 c = c .before .before .before .before .before .before .before .before .before .before .before .before .before .before .before .before .before .before .before .before .before .before .before .pending .given
 
 same-length-12 : tie.Need-same-length-12
-same-length-12 c = c .before .before .before .before .before .before .before .before .before .before .before .before .before .before .before .before .before .before .before .before .before .before .slots .given
+same-length-12 c = c .before .before .before .before .before .before .before .before .before .before .before .before .before .before .before .before .before .before .before .before .before .before .index .given
 
 same-length-13 : tie.Need-same-length-13
 same-length-13 c = c .before .before .before .before .before .before .before .before .before .before .before .before .before .before .before .before .before .before .before .before .entries .given
@@ -77,16 +77,16 @@ same-length-16 : tie.Need-same-length-16
 same-length-16 c = c .before .before .before .before .before .before .before .before .before .before .before .before .before .before .before .before .plans .given
 
 same-length-17 : tie.Need-same-length-17
-same-length-17 c = c .before .before .before .before .before .before .stack .given
+same-length-17 c = c .before .before .before .before .before .before .visit .given
 
 same-length-18 : tie.Need-same-length-18
-same-length-18 c = c .before .before .before .before .held .given
+same-length-18 c = c .before .before .before .before .depth .given
 
 same-length-19 : tie.Need-same-length-19
 same-length-19 c = c .before .before .output .given
 
 same-length-20 : tie.Need-same-length-20
-same-length-20 c = c .rows .given
+same-length-20 c = c .spans .given
 
 returns-2 : tie.Need-returns-2
 returns-2 c =

@@ -43,7 +43,7 @@ slice-relend-prefix-lay-out : tie.Need-slice-relend-prefix-lay-out
 slice-relend-prefix-lay-out c = slots-there (c .before .before .before .before .before .before .before .before .before .before .before .before .before .before .before .before .before .before .before .before .before .before .pre .1) (c .before .before .before .before .before .before .before .before .memo-slots-for .ensures)
 
 slice-aggregate-lay-out-6 : tie.Need-slice-aggregate-lay-out-6
-slice-aggregate-lay-out-6 c = sym (length-take-le (c .before .before .before .before .before .before .before .before .before .memo-slots-for .result) (now (c .before .before .before .before .before .before .before .before .before .before .before .before .before .before .before .before .before .before .before .before .before .before .before .args .slots)) (slots-there (c .before .before .before .before .before .before .before .before .before .before .before .before .before .before .before .before .before .before .before .before .before .before .before .pre .1) (c .before .before .before .before .before .before .before .before .before .memo-slots-for .ensures)))
+slice-aggregate-lay-out-6 c = sym (length-take-le (c .before .before .before .before .before .before .before .before .before .memo-slots-for .result) (now (c .before .before .before .before .before .before .before .before .before .before .before .before .before .before .before .before .before .before .before .before .before .before .before .args .index)) (slots-there (c .before .before .before .before .before .before .before .before .before .before .before .before .before .before .before .before .before .before .before .before .before .before .before .pre .1) (c .before .before .before .before .before .before .before .before .before .memo-slots-for .ensures)))
 
 lay-out-requires : tie.Need-lay-out-requires
 lay-out-requires c κs = let pre = c .before .before .before .before .before .before .before .before .before .before .before .before .before .before .before .before .before .before .before .before .before .before .before .before .before .before .before .before .before .before .before .pre in (pre .0, memo-room (pre .1) (c .before .before .before .before .before .before .before .before .before .before .before .before .before .before .before .before .before .memo-slots-for .ensures), record { accepted = pre .2 .readied .accepted; below = pre .2 .readied .below; inside = pre .2 .readied .inside }, pre .3)
@@ -58,7 +58,7 @@ same-length-3 : tie.Need-same-length-3
 same-length-3 c = c .before .before .before .before .before .before .before .before .before .before .before .before .before .before .pending .given
 
 same-length-4 : tie.Need-same-length-4
-same-length-4 c = c .before .before .before .before .before .before .before .before .before .before .before .before .before .slots .given .1
+same-length-4 c = c .before .before .before .before .before .before .before .before .before .before .before .before .before .index .given .1
 
 same-length-5 : tie.Need-same-length-5
 same-length-5 c = c .before .before .before .before .before .before .before .before .before .before .before .entries .given
@@ -73,16 +73,16 @@ same-length-8 : tie.Need-same-length-8
 same-length-8 c = c .before .before .before .before .before .before .before .plans .given
 
 same-length-9 : tie.Need-same-length-9
-same-length-9 c = c .before .before .before .before .before .before .stack .given
+same-length-9 c = c .before .before .before .before .before .before .visit .given
 
 same-length-10 : tie.Need-same-length-10
-same-length-10 c = c .before .before .before .before .held .given
+same-length-10 c = c .before .before .before .before .depth .given
 
 same-length-11 : tie.Need-same-length-11
 same-length-11 c = c .before .before .output .given
 
 same-length-12 : tie.Need-same-length-12
-same-length-12 c = c .rows .given
+same-length-12 c = c .spans .given
 
 returns : tie.Need-returns
 returns c = c .before .before .before .before .before .before .before .before .before .before .before .before .before .before .before .before .before .lay-out .ensures

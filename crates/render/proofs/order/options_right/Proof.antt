@@ -1,5 +1,5 @@
 use native.Mathlib.Omega.{arith}
-use Rattle.rules.specs.Tells.{tell-no, tell-le}
+use Rattle.file_checks.specs.Tells.{tell-no, tell-le}
 use Rattle.render.proofs.order.options_right.Statement.{statement}
 use Rattle.render.proofs.order.options_right.Tie as tie
 

@@ -1,5 +1,5 @@
 use Rattle.render.proofs.Ordered.{was-false, was-true}
-use Rattle.rules.specs.Tells.{tell-no, tell-same}
+use Rattle.file_checks.specs.Tells.{tell-no, tell-same}
 use borrow.Author.Needs.{needs}
 use Rattle.render.proofs.order.solver_lent.Statement.{statement}
 use Rattle.render.proofs.order.solver_lent.Tie as tie

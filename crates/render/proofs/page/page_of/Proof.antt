@@ -28,7 +28,7 @@ same-length-4 c = search needs
 
 returns : tie.Need-returns
 returns c =
-    page-made (c .before .before .before .before .before .before .before .before .before .before .before .before .before .before .before .before .before .before .before .before .args .b) (c .before .before .before .before .before .before .before .before .before .before .before .before .before .before .before .before .before .before .before .before .args .core) _ _ _ _ _ (c .before .before .before .before .before .before .before .before .before .before .before .before .before .before .before .capacity-of .result) (c .before .before .before .before .before .before .before .before .before .before .before .before .before .before .before .capacity-of .ensures .0) (c .before .before .before .before .before .before .before .before .materialize .result) (c .before .before .before .before .before .before .before .before .materialize .ensures) (c .before .before .before .before .before .before .before .before .before .before .before .before .before .before .before .before .before .before .before .before .pre .3) (c .before .before .before .output .given) (c .before .rows .given) (c .show .result) (c .show .ensures)
+    page-made (c .before .before .before .before .before .before .before .before .before .before .before .before .before .before .before .before .before .before .before .before .args .b) (c .before .before .before .before .before .before .before .before .before .before .before .before .before .before .before .before .before .before .before .before .args .core) _ _ _ _ _ (c .before .before .before .before .before .before .before .before .before .before .before .before .before .before .before .capacity-of .result) (c .before .before .before .before .before .before .before .before .before .before .before .before .before .before .before .capacity-of .ensures .0) (c .before .before .before .before .before .before .before .before .materialize .result) (c .before .before .before .before .before .before .before .before .materialize .ensures) (c .before .before .before .before .before .before .before .before .before .before .before .before .before .before .before .before .before .before .before .before .pre .3) (c .before .before .before .output .given) (c .before .spans .given) (c .show .result) (c .show .ensures)
 
 pub page-of-spec : {M : Type 1} → statement M
 page-of-spec =

@@ -1,2 +1,0 @@
-// What tables can have wrong by themselves.
-pub mod faults;

@@ -1,0 +1,13 @@
+pub mod ByKind
+pub mod Spaces
+pub mod Enumerated
+pub mod Ways
+pub mod Orders
+pub mod White
+pub mod Circles
+pub mod Choices
+pub mod Judging
+pub mod Decided
+pub mod Rank
+pub mod Exactly
+pub mod Cases

@@ -1,0 +1,1 @@
+// How the machine reads the tables of an accepted file: definitions only, in specs/.

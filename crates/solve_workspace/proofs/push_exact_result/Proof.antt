@@ -1,0 +1,55 @@
+use native.Mathlib.Omega.{arith}
+use Rattle.solve_workspace.proofs.Pushing.{result-on, result-full, results-same}
+use Rattle.solve_workspace.specs.Stores.{halted-same}
+use borrow.Author.Needs.{needs}
+use Rattle.solve_workspace.proofs.push_exact_result.Statement.{statement}
+use Rattle.solve_workspace.proofs.push_exact_result.Tie as tie
+
+slice-read-r : tie.Need-slice-read-r
+slice-read-r c = search needs
+
+cast-size : tie.Need-cast-size
+cast-size c = search needs
+
+add-needed : tie.Need-add-needed
+add-needed c = search needs
+
+returns : tie.Need-returns
+returns c = (λ ts ps es ks fs ns. result-full _ (c .before .before .before .args .g .now) ts _ ps es ks fs ns _ _ _ (omega arith), halted-same _ _ _ (c .before .before .before .args .g .now))
+
+mul-t15 : tie.Need-mul-t15
+mul-t15 c = search needs
+
+slice-set-from-results : tie.Need-slice-set-from-results
+slice-set-from-results c = search needs
+
+add-g : tie.Need-add-g
+add-g c = search needs
+
+slice-write-g : tie.Need-slice-write-g
+slice-write-g c = search needs
+
+same-length : tie.Need-same-length
+same-length c = search needs
+
+same-length-2 : tie.Need-same-length-2
+same-length-2 c = search needs
+
+returns-2 : tie.Need-returns-2
+returns-2 c = (λ ts ps es ks fs ns. result-on _ (c .before .before .before .args .g .now) ts _ ps es ks fs ns _ _ (c .before .before .before .pre .1) (omega arith) (omega arith), results-same (c .before .before .before .args .g .now) _ (omega arith))
+
+pub push-exact-result-spec : {M : Type 1} → statement M
+push-exact-result-spec =
+    tie.close
+    (tie.spec
+    slice-read-r
+    cast-size
+    add-needed
+    returns
+    mul-t15
+    slice-set-from-results
+    add-g
+    slice-write-g
+    same-length
+    same-length-2
+    returns-2)
