@@ -1,8 +1,9 @@
 /* A prepared file's page, by the proved library libgannozhi.a (`rt staticlib gannozhi`), on x86-64.
  *
- * Every slice is a pointer and a number of items. A pointer is never null, also where there are no items, and is aligned for its items; what
- * is written overlaps nothing else. What lent memory holds at entry does not matter. Where a slice is too short the library refuses by 1;
- * no call has any other condition. The library allocates nothing, keeps nothing between calls, and calls nothing but memcpy and memset.
+ * Every slice is a pointer and a number of items. A pointer is never null, also where there are no items, and is aligned for its items;
+ * what is written overlaps nothing else. What lent memory holds at entry does not matter. Where a slice is too short the library refuses
+ * by 1; no call has any other condition. The library allocates nothing, keeps nothing between calls, and calls nothing but memcpy and
+ * memset.
  *
  * docs/MEMORY.md says what the working memory is for. */
 #ifndef GANNOZHI_H
@@ -51,6 +52,16 @@ enum {
     GANNOZHI_ANSWER
 };
 
+/* The word of a refusal in the rule; an empty string for a number that is none, so that it can be printed untested. */
+static inline const char *gannozhi_refusal(uint32_t number) {
+    static const char *const words[] = {
+        "", "order",
+        "short", "form", "limit", "surplus", "reference", "text", "space", "circle", "list", /* the file: 2 to 10 */
+        "domain", "work", "stack", "memo", "kept", "frontier", "plans",                      /* the solver: 11 to 17 */
+        "visit", "depth", "output", "spans", "visits"};                                      /* the materializer: 18 to 22 */
+    return number < sizeof words / sizeof *words ? words[number] : "";
+}
+
 /* How many items to lend for a file's tables. */
 #define GANNOZHI_NODES 4096
 #define GANNOZHI_EDGES 16384
@@ -86,13 +97,13 @@ uint32_t gannozhi_render(
     uint32_t (*tasks)[9], size_t tasks_length,      /* stack */
     uint32_t (*results)[2], size_t results_length,  /* stack */
     uint64_t (*pending)[7], size_t pending_length,  /* stack */
-    uint64_t *slots, size_t slots_length,           /* gannozhi_memo_slots(memo) */
+    uint64_t *index, size_t index_length,           /* gannozhi_memo_slots(memo) */
     uint64_t (*entries)[6], size_t entries_length,  /* memo */
     uint64_t (*kept)[6], size_t kept_length,        /* kept */
     uint64_t *frontier, size_t frontier_length,     /* GANNOZHI_FRONTIER_WORDS * frontier */
     uint32_t (*plans)[3], size_t plans_length,      /* plans */
     size_t *visit, size_t visit_length,             /* visit */
-    size_t *held, size_t held_length,               /* depth */
+    size_t *depth, size_t depth_length,             /* depth */
     uint8_t *output, size_t output_length,          /* output */
     gannozhi_span *spans, size_t spans_length,      /* spans */
     uint64_t answer[GANNOZHI_ANSWER]);
@@ -110,8 +121,8 @@ enum {
     GANNOZHI_COUNTS
 };
 
-/* A file into lent tables: 0, or the number of the refusal (1 to 10), which leaves the counts unaltered. Past its count a table holds anything,
- * and after a refusal it does from its start. */
+/* A file into lent tables: 0, or the number of the refusal (1 to 10), which leaves the counts unaltered. Past its count a table holds
+ * anything, and after a refusal it does from its start. */
 uint32_t gannozhi_read(
     const uint8_t *file, size_t file_length,
     uint32_t (*nodes)[8], size_t nodes_length,
@@ -121,9 +132,9 @@ uint32_t gannozhi_read(
     uint8_t *bytes, size_t bytes_length,
     uint32_t counts[GANNOZHI_COUNTS]);
 
-/* The one file that reads back to the tables, which stay as they are: 0, or the number of the refusal (1, 3, 4, 6 to 10, 20). `size` is then the number of bytes
- * written, or for 20 needed, else 0. A refusal alters no byte of `out`; past the file they are unaltered. GANNOZHI_BYTE_COUNT is not read: it is the sum of
- * the texts' lengths. */
+/* The one file that reads back to the tables, which stay as they are: 0, or the number of the refusal (1, 3, 4, 6 to 10, 20). `size` is
+ * then the number of bytes written, or for 20 needed, else 0. A refusal alters no byte of `out`; past the file they are unaltered.
+ * GANNOZHI_BYTE_COUNT is not read: it is the sum of the texts' lengths. */
 uint32_t gannozhi_write(
     const uint32_t counts[GANNOZHI_COUNTS],
     uint32_t (*nodes)[8], size_t nodes_length,

@@ -1,43 +1,82 @@
-/* `page WIDTH < FILE`: the page of a prepared file, with its cost on standard error; or why there is none.
+/* The page of a prepared file on standard output, its cost and spans on standard error; or why there is none.
  *
  *     rt staticlib gannozhi
- *     cc -O2 -o page bindings/c/page.c target/staticlib/libgannozhi.a */
+ *     cc -O2 -o page bindings/c/page.c target/staticlib/libgannozhi.a
+ *     ./page 36 < samples/ticket.prepared */
+#include <ctype.h>
 #include <inttypes.h>
 #include <stdio.h>
 #include <stdlib.h>
+#include <string.h>
 
 #include "gannozhi.h"
 
-static const uint32_t sizes[GANNOZHI_SIZES] = {512, 1024, 1024, 256, 2048, 512, 64, 32768, 512};
+static const char usage[] = "usage: page [WIDTH [NEWLINE_COST [POLICY]]] < FILE   (80 1 0 where they are not given)\n";
 
+/* The sizes of the program `page`. */
+enum { STACK = 512, MEMO = 1024, KEPT = 1024, FRONTIER = 256, PLANS = 2048, VISIT = 512, DEPTH = 64, OUTPUT = 32768, SPANS = 512 };
+static const uint32_t sizes[GANNOZHI_SIZES] = {STACK, MEMO, KEPT, FRONTIER, PLANS, VISIT, DEPTH, OUTPUT, SPANS};
+
+/* All that is lent, under the names of docs/MEMORY.md. */
+static struct {
+    uint32_t nodes[GANNOZHI_NODES][8], edges[GANNOZHI_EDGES], choices[GANNOZHI_CHOICES], texts[GANNOZHI_TEXTS][3];
+    uint8_t bytes[GANNOZHI_BYTES];
+    uint32_t tasks[STACK][9], results[STACK][2];
+    uint64_t pending[STACK][7], index[2048] /* gannozhi_memo_slots(MEMO) */, entries[MEMO][6], kept[KEPT][6];
+    uint64_t frontier[GANNOZHI_FRONTIER_WORDS * FRONTIER];
+    uint32_t plans[PLANS][3];
+    size_t visit[VISIT], depth[DEPTH];
+    uint8_t output[OUTPUT];
+    gannozhi_span spans[SPANS];
+} lent;
+
+#define LENT(slice) lent.slice, sizeof lent.slice / sizeof *lent.slice
+
+/* No file has more than 339,997 bytes; the one more shows that there is a surplus. */
 static uint8_t file[339998];
-static uint32_t nodes[GANNOZHI_NODES][8], edges[GANNOZHI_EDGES], choices[GANNOZHI_CHOICES], texts[GANNOZHI_TEXTS][3];
-static uint8_t bytes[GANNOZHI_BYTES];
-static uint32_t tasks[512][9], results[512][2], plans[2048][3];
-static uint64_t pending[512][7], slots[2048], entries[1024][6], kept[1024][6], frontier[GANNOZHI_FRONTIER_WORDS * 256];
-static size_t visit[512], held[64];
-static uint8_t output[32768];
-static gannozhi_span spans[512];
 static uint64_t answer[GANNOZHI_ANSWER];
 
-#define LENT(a) a, sizeof(a) / sizeof(*(a))
+/* A word of decimal digits, below 2^32. */
+static int number_of(const char *word, uint32_t *number) {
+    char *end;
+    unsigned long long value = strtoull(word, &end, 10);
+    *number = (uint32_t)value;
+    return isdigit((unsigned char)*word) && *end == 0 && value <= UINT32_MAX;
+}
 
 int main(int count, char **words) {
-    uint32_t width = count > 1 ? (uint32_t)strtoul(words[1], NULL, 10) : 80;
+    uint32_t setting[3] = {80, 1, 0}; /* width, newline cost, policy */
+    for (int i = 1; i < count; i++) {
+        if (strcmp(words[i], "--help") == 0) {
+            fputs(usage, stdout);
+            return 0;
+        }
+        if (i > 3 || !number_of(words[i], &setting[i - 1])) {
+            fputs(usage, stderr);
+            return 2;
+        }
+    }
     size_t length = fread(file, 1, sizeof file, stdin);
     uint32_t number = gannozhi_render(
-        file, length, width, 1, 0, sizes, 1000000, 1000000, LENT(nodes), LENT(edges), LENT(choices), LENT(texts), LENT(bytes),
-        LENT(tasks), LENT(results), LENT(pending), LENT(slots), LENT(entries), LENT(kept), LENT(frontier), LENT(plans), LENT(visit),
-        LENT(held), LENT(output), LENT(spans), answer);
+        file, length, setting[0], setting[1], setting[2], sizes, 1000000, 1000000, LENT(nodes), LENT(edges), LENT(choices),
+        LENT(texts), LENT(bytes), LENT(tasks), LENT(results), LENT(pending), LENT(index), LENT(entries), LENT(kept), LENT(frontier),
+        LENT(plans), LENT(visit), LENT(depth), LENT(output), LENT(spans), answer);
     if (number != 0) {
-        fprintf(stderr, "refused %" PRIu32 ", needed %" PRIu64 "\n", number, answer[GANNOZHI_NEEDED]);
+        fprintf(stderr, "refused %" PRIu32 " %s", number, gannozhi_refusal(number));
+        if (answer[GANNOZHI_NEEDED] != 0) fprintf(stderr, ", needed %" PRIu64, answer[GANNOZHI_NEEDED]);
+        fputs("\n", stderr);
         return 1;
     }
-    fwrite(output, 1, answer[GANNOZHI_LENGTH], stdout);
     fprintf(stderr, "overflow %016" PRIx64 "%016" PRIx64 ", burden %" PRIu64 ", work %" PRIu64 "\n", answer[GANNOZHI_OVERFLOW_HIGH],
             answer[GANNOZHI_OVERFLOW_LOW], answer[GANNOZHI_BURDEN], answer[GANNOZHI_WORK]);
-    for (uint64_t i = 0; i < answer[GANNOZHI_SPAN_COUNT]; i++)
-        fprintf(stderr, "span %" PRIu64 ": annotation %" PRIu64 ", %" PRIu64 " to %" PRIu64 ", parent %" PRId64 "\n", i, spans[i][0],
-                spans[i][1], spans[i][2], (int64_t)spans[i][3] - 1);
+    for (uint64_t i = 0; i < answer[GANNOZHI_SPAN_COUNT]; i++) {
+        const uint64_t *span = lent.spans[i]; /* annotation, start, end; its parent, `-` for none */
+        fprintf(stderr, "span %" PRIu64 " %" PRIu64 " %" PRIu64, span[0], span[1], span[2]);
+        if (span[3] == 0)
+            fputs(" -\n", stderr);
+        else
+            fprintf(stderr, " %" PRIu64 "\n", span[3] - 1);
+    }
+    fwrite(lent.output, 1, answer[GANNOZHI_LENGTH], stdout);
     return 0;
 }

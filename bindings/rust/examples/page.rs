@@ -1,26 +1,51 @@
-//! `page WIDTH < FILE`: the page of a prepared file, with its cost on standard error; or why there is none.
+//! The page of a prepared file on standard output, its cost and spans on standard error; or why there is none.
+//!
+//!     cargo run --offline --example page -- 36 < ../../samples/ticket.prepared
 
 use std::io::{Read, Write};
+use std::process::ExitCode;
 
 use gannozhi::{Limits, Printer, Settings, Sizes};
 
-fn main() {
-    let width = std::env::args().nth(1).and_then(|word| word.parse().ok()).unwrap_or(80);
+const USAGE: &str = "usage: page [WIDTH [NEWLINE_COST [POLICY]]] < FILE   (80 1 0 where they are not given)";
+
+/// A word of decimal digits, below 2^32.
+fn number(word: &str) -> Option<u32> {
+    word.bytes().all(|byte| byte.is_ascii_digit()).then(|| word.parse().ok())?
+}
+
+fn main() -> ExitCode {
+    let mut setting = [80, 1, 0];
+    for (place, word) in std::env::args_os().skip(1).enumerate() {
+        let word = word.to_string_lossy();
+        if word == "--help" {
+            println!("{USAGE}");
+            return ExitCode::SUCCESS;
+        }
+        match (setting.get_mut(place), number(&word)) {
+            (Some(field), Some(value)) => *field = value,
+            _ => {
+                eprintln!("{USAGE}");
+                return ExitCode::from(2);
+            }
+        }
+    }
+    let [width, newline_cost, policy] = setting;
     let mut file = Vec::new();
     std::io::stdin().read_to_end(&mut file).expect("standard input");
-    let settings = Settings { width, newline_cost: 1, policy: 0 };
-    let mut printer = Printer::new(Sizes::PAGE);
-    match printer.render(&file, &settings, &Limits { work: 1_000_000, visits: 1_000_000 }) {
+    let limits = Limits { work: 1_000_000, visits: 1_000_000 };
+    match Printer::new(Sizes::PAGE).render(&file, &Settings { width, newline_cost, policy }, &limits) {
         Ok(page) => {
-            std::io::stdout().write_all(page.bytes).expect("standard output");
-            eprintln!("overflow {}, burden {}, work {}", page.overflow, page.burden, page.counts.work);
-            for (number, span) in page.spans().enumerate() {
-                eprintln!("span {number}: {span:?}");
+            eprintln!("overflow {:032x}, burden {}, work {}", page.overflow, page.burden, page.counts.work);
+            for span in page.spans() {
+                eprintln!("span {span}");
             }
+            std::io::stdout().write_all(page.bytes).expect("standard output");
+            ExitCode::SUCCESS
         }
         Err(refusal) => {
             eprintln!("{refusal}");
-            std::process::exit(1);
+            ExitCode::FAILURE
         }
     }
 }

@@ -84,6 +84,17 @@ pub struct Span {
     pub parent: Option<usize>,
 }
 
+/// Annotation, start, end and parent, `-` for none: a line of samples/NAME.spans.
+impl std::fmt::Display for Span {
+    fn fmt(&self, f: &mut std::fmt::Formatter) -> std::fmt::Result {
+        write!(f, "{} {} {} ", self.annotation, self.start, self.end)?;
+        match self.parent {
+            Some(parent) => write!(f, "{parent}"),
+            None => write!(f, "-"),
+        }
+    }
+}
+
 #[derive(Debug)]
 pub struct Page<'a> {
     pub bytes: &'a [u8],
@@ -118,39 +129,43 @@ pub struct Refusal {
 }
 
 impl Refusal {
-    /// The refusal's word in the rule.
     pub fn word(&self) -> &'static str {
-        const WORDS: [&str; 22] = [
-            "order",
-            "short",
-            "form",
-            "limit",
-            "surplus",
-            "reference",
-            "text",
-            "space",
-            "circle",
-            "list",
-            "domain",
-            "work",
-            "stack",
-            "memo",
-            "kept",
-            "frontier",
-            "plans",
-            "visit",
-            "depth",
-            "output",
-            "spans",
-            "visits",
-        ];
-        WORDS.get((self.number as usize).wrapping_sub(1)).unwrap_or(&"?")
+        refusal(self.number)
+    }
+}
+
+/// The word of a refusal in the rule; empty for a number that is none.
+pub fn refusal(number: u32) -> &'static str {
+    match number {
+        1 => "order",
+        2 => "short",
+        3 => "form",
+        4 => "limit",
+        5 => "surplus",
+        6 => "reference",
+        7 => "text",
+        8 => "space",
+        9 => "circle",
+        10 => "list",
+        11 => "domain",
+        12 => "work",
+        13 => "stack",
+        14 => "memo",
+        15 => "kept",
+        16 => "frontier",
+        17 => "plans",
+        18 => "visit",
+        19 => "depth",
+        20 => "output",
+        21 => "spans",
+        22 => "visits",
+        _ => "",
     }
 }
 
 impl std::fmt::Display for Refusal {
     fn fmt(&self, f: &mut std::fmt::Formatter) -> std::fmt::Result {
-        write!(f, "refused {} ({})", self.number, self.word())?;
+        write!(f, "refused {} {}", self.number, self.word())?;
         match self.needed {
             0 => Ok(()),
             needed => write!(f, ", needed {needed}"),
@@ -198,13 +213,13 @@ pub struct Printer {
     tasks: Vec<[u32; 9]>,
     results: Vec<[u32; 2]>,
     pending: Vec<[u64; 7]>,
-    slots: Vec<u64>,
+    index: Vec<u64>,
     entries: Vec<[u64; 6]>,
     kept: Vec<[u64; 6]>,
     frontier: Vec<u64>,
     plans: Vec<[u32; 3]>,
     visit: Vec<usize>,
-    held: Vec<usize>,
+    depth: Vec<usize>,
     output: Vec<u8>,
     spans: Vec<[u64; 4]>,
 }
@@ -217,13 +232,13 @@ impl Printer {
             tasks: vec![[0; 9]; sizes.stack as usize],
             results: vec![[0; 2]; sizes.stack as usize],
             pending: vec![[0; 7]; sizes.stack as usize],
-            slots: vec![0; memo_slots_for(sizes.memo)],
+            index: vec![0; memo_slots_for(sizes.memo)],
             entries: vec![[0; 6]; sizes.memo as usize],
             kept: vec![[0; 6]; sizes.kept as usize],
             frontier: vec![0; sizes.frontier as usize * 14],
             plans: vec![[0; 3]; sizes.plans as usize],
             visit: vec![0; sizes.visit as usize],
-            held: vec![0; sizes.depth as usize],
+            depth: vec![0; sizes.depth as usize],
             output: vec![0; sizes.output as usize],
             spans: vec![[0; 4]; sizes.spans as usize],
         }
@@ -244,13 +259,13 @@ impl Printer {
             tasks: &mut self.tasks,
             results: &mut self.results,
             pending: &mut self.pending,
-            slots: &mut self.slots,
+            index: &mut self.index,
             entries: &mut self.entries,
             kept: &mut self.kept,
             frontier: &mut self.frontier,
             plans: &mut self.plans,
             visit: &mut self.visit,
-            held: &mut self.held,
+            depth: &mut self.depth,
         };
         let done = render_lent(file, settings, &self.sizes, limits, tables, solver, &mut self.output, &mut self.spans)?;
         Ok(Page {

@@ -166,13 +166,13 @@ mod library {
         tasks: Store<[u32; 9]>,
         results: Store<[u32; 2]>,
         pending: Store<[u64; 7]>,
-        slots: Store<u64>,
+        index: Store<u64>,
         entries: Store<[u64; 6]>,
         kept: Store<[u64; 6]>,
         frontier: Store<u64>,
         plans: Store<[u32; 3]>,
         visit: Store<usize>,
-        held: Store<usize>,
+        depth: Store<usize>,
         output: Store<u8>,
         spans: Store<[u64; 4]>,
     }
@@ -217,13 +217,13 @@ mod library {
                 tasks: Store::new(),
                 results: Store::new(),
                 pending: Store::new(),
-                slots: Store::new(),
+                index: Store::new(),
                 entries: Store::new(),
                 kept: Store::new(),
                 frontier: Store::new(),
                 plans: Store::new(),
                 visit: Store::new(),
-                held: Store::new(),
+                depth: Store::new(),
                 output: Store::new(),
                 spans: Store::new(),
             }
@@ -233,7 +233,7 @@ mod library {
             let rng = &mut self.rng;
             let dirt =
                 rng.pick(&[Dirt::Left, Dirt::Left, Dirt::Left, Dirt::Zeros, Dirt::Ones, Dirt::Small, Dirt::Words]);
-            let [nodes, edges, choices, texts, bytes, tasks, results, pending, slots, entries, kept, frontier, plans, visit, held, output, spans] =
+            let [nodes, edges, choices, texts, bytes, tasks, results, pending, index, entries, kept, frontier, plans, visit, depth, output, spans] =
                 lengths;
             self.nodes.soil(rng, dirt, nodes);
             self.edges.soil(rng, dirt, edges);
@@ -243,13 +243,13 @@ mod library {
             self.tasks.soil(rng, dirt, tasks);
             self.results.soil(rng, dirt, results);
             self.pending.soil(rng, dirt, pending);
-            self.slots.soil(rng, dirt, slots);
+            self.index.soil(rng, dirt, index);
             self.entries.soil(rng, dirt, entries);
             self.kept.soil(rng, dirt, kept);
             self.frontier.soil(rng, dirt, frontier);
             self.plans.soil(rng, dirt, plans);
             self.visit.soil(rng, dirt, visit);
-            self.held.soil(rng, dirt, held);
+            self.depth.soil(rng, dirt, depth);
             self.output.soil(rng, dirt, output);
             self.spans.soil(rng, dirt, spans);
         }
@@ -263,13 +263,13 @@ mod library {
             self.tasks.check("tasks");
             self.results.check("results");
             self.pending.check("pending");
-            self.slots.check("slots");
+            self.index.check("index");
             self.entries.check("entries");
             self.kept.check("kept");
             self.frontier.check("frontier");
             self.plans.check("plans");
             self.visit.check("visit");
-            self.held.check("held");
+            self.depth.check("depth");
             self.output.check("output");
             self.spans.check("spans");
         }
@@ -306,13 +306,13 @@ mod library {
                     tasks: self.tasks.lent(),
                     results: self.results.lent(),
                     pending: self.pending.lent(),
-                    slots: self.slots.lent(),
+                    index: self.index.lent(),
                     entries: self.entries.lent(),
                     kept: self.kept.lent(),
                     frontier: self.frontier.lent(),
                     plans: self.plans.lent(),
                     visit: self.visit.lent(),
-                    held: self.held.lent(),
+                    depth: self.depth.lent(),
                 },
                 self.output.lent(),
                 self.spans.lent(),

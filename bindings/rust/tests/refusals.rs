@@ -1,0 +1,156 @@
+//! Every refusal: its word, here and in the C header, and a call that is refused by it.
+
+use gannozhi::*;
+
+/// Those of 1 to 22 in document 01.
+const WORDS: &str = "order short form limit surplus reference text space circle list domain work \
+    stack memo kept frontier plans visit depth output spans visits";
+
+const FILE: &[u8] = include_bytes!("../../../samples/annotated.prepared");
+const SETTINGS: Settings = Settings { width: 24, newline_cost: 1, policy: 0 };
+const LIMITS: Limits = Limits { work: 1_000_000, visits: 1_000_000 };
+
+/// The bytes of the page, or the refusal.
+fn page(file: &[u8], settings: Settings, sizes: Sizes, limits: Limits) -> Result<Vec<u8>, Refusal> {
+    Printer::new(sizes).render(file, &settings, &limits).map(|page| page.bytes.to_vec())
+}
+
+#[test]
+fn words() {
+    assert_eq!((1..=22).map(refusal).collect::<Vec<_>>().join(" "), WORDS);
+    for none in [0, 23, u32::MAX] {
+        assert_eq!(refusal(none), "");
+    }
+}
+
+/// Its table begins with the empty word of 0.
+#[test]
+fn words_of_the_c_header() {
+    let header = include_str!("../../c/gannozhi.h");
+    let (_, behind) = header.split_once("words[] = {").expect("the table");
+    let (table, _) = behind.split_once("};").expect("its end");
+    let words: Vec<_> = table.split('"').skip(1).step_by(2).collect();
+    assert_eq!(words.join(" "), format!(" {WORDS}"));
+}
+
+#[test]
+fn order() {
+    for settings in [Settings { width: 0, ..SETTINGS }, Settings { policy: 2, ..SETTINGS }] {
+        let refused = page(FILE, settings, Sizes::PAGE, LIMITS).unwrap_err();
+        assert_eq!((refused.to_string().as_str(), refused.counts), ("refused 1 order", Counts::default()));
+    }
+}
+
+#[test]
+fn of_the_file() {
+    // One node and one text; the space.
+    const H: &str = "05 01000000 01000000";
+    const SP: &str = "03 01000000 01000000 20";
+    for (number, file) in [
+        // ends in a field
+        (2, String::new()),
+        // bit 6 in a node
+        (3, format!("{H} 40")),
+        // no nodes
+        (4, "04".into()),
+        // a byte after the last text
+        (5, format!("{H} 0000 {SP} 0a")),
+        // a Text that names no text
+        (6, format!("{H} 0101 01000000 {SP}")),
+        // a text with byte 10
+        (7, format!("{H} 0000 03 01000000 01000000 0a")),
+        // the space text has width 2
+        (8, format!("{H} 0000 03 02000000 01000000 20")),
+        // an Align of itself
+        (9, format!("{H} 0008 {SP}")),
+        // a choice list of one
+        (10, format!("15 02000000 01000000 01000000 1309 01000000 01000000 01000000 0000 01000000 {SP}")),
+        // Nest 1 over Nest 2^32 - 1
+        (11, format!("05 03000000 01000000 0307 01000000 01000000 0307 ffffffff 02000000 0000 {SP}")),
+    ] {
+        let digits: Vec<u8> = file.chars().filter_map(|c| c.to_digit(16)).map(|digit| digit as u8).collect();
+        let file: Vec<u8> = digits.chunks(2).map(|pair| pair[0] << 4 | pair[1]).collect();
+        let refused = page(&file, SETTINGS, Sizes::PAGE, LIMITS).unwrap_err();
+        assert_eq!(refused.to_string(), format!("refused {number} {}", refusal(number)));
+        // 11 is found by the solver: the file is right.
+        let read = Printer::new(Sizes::PAGE).read(&file).map(|counts| counts.nodes);
+        assert_eq!(read, if number < 11 { Err(number) } else { Ok(3) });
+    }
+}
+
+fn sizes(list: [u32; 9]) -> Sizes {
+    let [stack, memo, kept, frontier, plans, visit, depth, output, spans] = list;
+    Sizes { stack, memo, kept, frontier, plans, visit, depth, output, spans }
+}
+
+/// The least sizes are enough for the page; with one less of any it is refused, and the refusal says what is needed.
+#[test]
+fn too_little_of_each_size() {
+    const LEAST: [u32; 9] = [6, 22, 70, 4, 70, 11, 2, 36, 3];
+    assert_eq!(page(FILE, SETTINGS, sizes(LEAST), LIMITS).unwrap(), page(FILE, SETTINGS, Sizes::PAGE, LIMITS).unwrap());
+    for (kind, needed) in LEAST.into_iter().enumerate() {
+        let mut less = LEAST;
+        less[kind] -= 1;
+        let number = 13 + kind as u32;
+        let refused = page(FILE, SETTINGS, sizes(less), LIMITS).unwrap_err();
+        assert_eq!(refused.to_string(), format!("refused {number} {}, needed {needed}", refusal(number)));
+    }
+}
+
+#[test]
+fn limits() {
+    let Counts { work, visits, .. } = Printer::new(Sizes::PAGE).render(FILE, &SETTINGS, &LIMITS).unwrap().counts;
+    assert!(page(FILE, SETTINGS, Sizes::PAGE, Limits { work, visits }).is_ok());
+    for less in [1, work] {
+        let refused = page(FILE, SETTINGS, Sizes::PAGE, Limits { work: work - less, visits }).unwrap_err();
+        assert_eq!((refused.to_string().as_str(), refused.counts.work), ("refused 12 work", work - less));
+    }
+    for less in [1, visits] {
+        let refused = page(FILE, SETTINGS, Sizes::PAGE, Limits { work, visits: visits - less }).unwrap_err();
+        assert_eq!((refused.to_string().as_str(), refused.counts.visits), ("refused 22 visits", visits - less));
+    }
+}
+
+/// A call on slices for the sizes of `page`, with the caller's own output and spans.
+fn lent(sizes: &Sizes, output: &mut [u8], spans: &mut [[u64; 4]]) -> Result<Rendered, Refusal> {
+    let tables = TableMemory {
+        nodes: &mut vec![[0; 8]; 4_096],
+        edges: &mut vec![0; 16_384],
+        choices: &mut vec![0; 16_384],
+        texts: &mut vec![[0; 3]; 4_096],
+        bytes: &mut vec![0; 65_536],
+    };
+    let solver = SolverMemory {
+        tasks: &mut [[0; 9]; 512],
+        results: &mut [[0; 2]; 512],
+        pending: &mut [[0; 7]; 512],
+        index: &mut vec![0; memo_slots_for(1_024)],
+        entries: &mut [[0; 6]; 1_024],
+        kept: &mut [[0; 6]; 1_024],
+        frontier: &mut [0; 14 * 256],
+        plans: &mut [[0; 3]; 2_048],
+        visit: &mut [0; 512],
+        depth: &mut [0; 64],
+    };
+    render_lent(FILE, &SETTINGS, sizes, &LIMITS, tables, solver, output, spans)
+}
+
+/// What stands in output and spans stays there on a refusal, and always past their end.
+#[test]
+fn unaltered() {
+    let right = page(FILE, SETTINGS, Sizes::PAGE, LIMITS).unwrap();
+    let room = Sizes { output: 40, spans: 4, ..Sizes::PAGE };
+    for (number, sizes) in [
+        (1, Sizes { output: 41, ..room }),
+        (20, Sizes { output: 35, ..room }),
+        (21, Sizes { spans: 2, ..room }),
+        (0, room),
+    ] {
+        let (mut output, mut spans) = ([b'x'; 40], [[7; 4]; 4]);
+        let answer = lent(&sizes, &mut output, &mut spans);
+        assert_eq!(answer.err().map_or(0, |refused| refused.number), number);
+        let (length, rows) = answer.map_or((0, 0), |done| (done.length, done.spans));
+        assert_eq!(output[..length], right[..length]);
+        assert_eq!((&output[length..], &spans[rows..]), (&[b'x'; 40][length..], &[[7; 4]; 4][rows..]));
+    }
+}
