@@ -8,7 +8,7 @@ ghost use Rattle.layout.specs.Rules.{Rules, policy};
 ghost use Rattle.machine.specs.Model.{Prepared};
 ghost use Rattle.machine.specs.Solver.{begin-union, begin-choice, push-alternatives, newline};
 ghost use Rattle.frontier.specs.Candidates.{carried};
-ghost use Rattle.file_tables.specs.Tables.{flat};
+ghost use Rattle.file_tables.specs.Tables.{flat, width};
 ghost use Rattle.solve_workspace.specs.Meets.{Meets, counts};
 ghost use Rattle.solve_workspace.specs.Frames.{Keeps};
 ghost use Rattle.solve_workspace.specs.Lent.{regs, Held, reached};
@@ -95,6 +95,12 @@ pub enum NodeLink {
 
 // ---- reads
 
+fn text_width(texts: &[[u32; 3]], text: TextId) -> u32
+    ensures { λ r. ⌜ r ≡ width (getD (now (texts .entry)) (text .0) []) ⌝ }
+{
+    text_word(texts, text.0 as usize, 0)
+}
+
 // Child `index` of a range of edges.
 fn child_at(edges: &[u32], start: u32, len: u32, index: u32) -> NodeLink
     ensures { λ r. ⌜ ChildIs (edge-part (now (edges .entry)) start len) index r ⌝ }
@@ -147,8 +153,8 @@ fn leaf_node(texts: &[[u32; 3]], kind: u32, first: u32) -> PreparedNode
         return PreparedNode::Leaf(Leaf::Empty);
     }
     if kind == 1 {
-        let width = text_word(texts, first as usize, 0);
         let text = TextId(first);
+        let width = text_width(texts, text);
         return PreparedNode::Leaf(Leaf::Text {
             text: text,
             width: width,
