@@ -1,14 +1,16 @@
 -- Definitions that only the contracts of inner functions cite: how the searches for a circle and along a choice list go.
-use Prim.Native.Nat.{ℕ, zero, suc, _+_, _≤_, _<_}
+use Prim.Native.Nat.{ℕ, zero, suc, _+_, _-_, _≤_, _<_}
 use mathlib.Core.Path.{_≡_}
 use mathlib.Core.List.{List, [], _∷_}
 use mathlib.Core.Bool.{Bool, true, false}
-use lib.ListN.{length, getD}
+use lib.ListN.{length, getD, drop}
 use lib.Dec.{leb, eqb}
 use Rattle.file_tables.specs.Tables.{kind, first, second, flat-mark, flat-word, choice-start, choice-length, skipped}
-use Rattle.file_checks.specs.Circle.{Leads, Circle}
+use Rattle.file_checks.specs.Circle.{Refers, Circle}
 use Rattle.file_checks.specs.Descent.{Ends}
 use Rattle.file_checks.specs.Choice.{two, choice-list, ListsRight}
+use Rattle.file_checks.specs.declared.circle.Turn.{Turn}
+use Rattle.file_checks.specs.declared.circle.Turn.the-variants.{Round, At}
 
 abbrev pub pick : Bool → ℕ → ℕ → ℕ
 pick true a b = a
@@ -39,28 +41,81 @@ degree nodes i = degree-of (getD nodes i []) (getD nodes (first (getD nodes i []
 abbrev pub target : List (List ℕ) → List ℕ → ℕ → ℕ → ℕ
 target nodes edges i k = target-of edges (getD nodes i []) (getD nodes (first (getD nodes i [])) []) k
 
--- ---- the colours of the search: 0 not seen, 1 on the way, 2 done
+-- ---- the search for a circle. Its colours: 0 not seen, 1 on the way, 2 done
 
+-- how many are not seen
 unfoldable pub white : List ℕ → ℕ
 white [] = 0
 white (c ∷ cs) = pick (eqb c 0) (suc (white cs)) (white cs)
 
--- there is a colour for each node, and what is done comes to an end
-pub record Colours (nodes : List (List ℕ)) (edges : List ℕ) (cs : List ℕ) : Type 0 where
+-- the way is a list of rows, the last node first: a node, and how many of its references are done
+abbrev pub node : List ℕ → ℕ
+node row = getD row 0 0
+
+abbrev pub taken : List ℕ → ℕ
+taken row = getD row 1 0
+
+-- what a row says: so many references of its node come to an end
+pub record Row (nodes : List (List ℕ)) (edges : List ℕ) (row : List ℕ) : Type 0 where
+  pub inside : node row < length nodes
+  pub past : (m : ℕ) → m < taken row → Ends nodes edges (target nodes edges (node row) m)
+
+-- the node of each row is one that the next row's refers to
+pub data Way (nodes : List (List ℕ)) (edges : List ℕ) : List (List ℕ) → Type 0 where
+  none : Way nodes edges []
+  start : {row : List ℕ} → Row nodes edges row → Way nodes edges (row ∷ [])
+  onward :
+      {row before : List ℕ} {rows : List (List ℕ)}
+      → Row nodes edges row
+      → Refers nodes edges (node before) (node row)
+      → Way nodes edges (before ∷ rows)
+      → Way nodes edges (row ∷ before ∷ rows)
+
+-- node x stands in one of the rows
+pub data Stands (x : ℕ) : List (List ℕ) → Type 0 where
+  here : {row : List ℕ} {rows : List (List ℕ)} → x ≡ node row → Stands x (row ∷ rows)
+  later : {row : List ℕ} {rows : List (List ℕ)} → Stands x rows → Stands x (row ∷ rows)
+
+-- between two turns of the search, and with no rows between two ways: each node has a colour, what is done comes to an end, what is on
+-- the way stands there, and there is room on it for all that is not seen
+pub record Walking (nodes : List (List ℕ)) (edges : List ℕ) (cs : List ℕ) (rows : List (List ℕ)) : Type 0 where
   pub enough : length nodes ≤ length cs
   pub done : (x : ℕ) → 1 < getD cs x 0 → Ends nodes edges x
+  pub way : Way nodes edges rows
+  pub grey : (x : ℕ) → getD cs x 0 ≡ 1 → Stands x rows
+  pub room : length rows + white cs ≤ length cs
 
--- every node on the way leads to i
-pub record Ways (nodes : List (List ℕ)) (edges : List ℕ) (cs : List ℕ) (i : ℕ) : Type 0 where
-  pub way : (x : ℕ) → getD cs x 0 ≡ 1 → (x < length nodes) × Leads nodes edges x i
+-- how many turns are left at most: for a node that is not seen its references and two, for a row the references that are not done and one
+unfoldable pub unseen : List (List ℕ) → ℕ → List ℕ → ℕ
+unseen nodes n [] = 0
+unseen nodes n (c ∷ cs) = pick (eqb c 0) (degree nodes n + 2) 0 + unseen nodes (suc n) cs
 
--- what a visit of i finds: a circle, or i done with nothing else on the way
-pub record Visited (nodes : List (List ℕ)) (edges : List ℕ) (cs ds : List ℕ) (i : ℕ) (found : Bool) : Type 0 where
+unfoldable pub unfinished : List (List ℕ) → List (List ℕ) → ℕ
+unfinished nodes [] = 0
+unfinished nodes (row ∷ rows) = (degree nodes (node row) - taken row) + 1 + unfinished nodes rows
+
+abbrev pub turns : List (List ℕ) → List ℕ → List (List ℕ) → ℕ
+turns nodes cs rows = unseen nodes 0 cs + unfinished nodes rows
+
+-- the search went on: the colours cs became ds, the rows became others
+pub record Went (nodes : List (List ℕ)) (edges cs : List ℕ) (rows : List (List ℕ)) (ds : List ℕ) (others : List (List ℕ)) : Type 0 where
+  pub walking : Walking nodes edges ds others
+  pub seen : (x : ℕ) → getD ds x 0 ≡ 0 → getD cs x 0 ≡ 0
+  pub fewer : turns nodes ds others < turns nodes cs rows
+
+-- what a turn comes to. The rows stand in `way` from `top` on, afterwards in `on` from the place that is told
+abbrev pub TurnCase : List (List ℕ) → List ℕ → List ℕ → List (List ℕ) → ℕ → List ℕ → List (List ℕ) → Turn → Type 0
+TurnCase nodes edges cs way top ds on Round = Circle nodes edges
+TurnCase nodes edges cs way top ds on (At place) = (place ≤ length on) × Went nodes edges cs (drop top way) ds (drop place on)
+
+pub record Turned (nodes : List (List ℕ)) (edges cs : List ℕ) (way : List (List ℕ)) (top : ℕ) (ds : List ℕ) (on : List (List ℕ)) (turn : Turn) : Type 0 where
+  pub case : TurnCase nodes edges cs way top ds on turn
+
+-- what a search from a node finds: a circle, or no way is left and the node is seen
+pub record Searched (nodes : List (List ℕ)) (edges cs ds : List ℕ) (i : ℕ) (found : Bool) : Type 0 where
   pub circle : found ≡ true → Circle nodes edges
-  pub good : found ≡ false → Colours nodes edges ds
-  pub kept : found ≡ false → (x : ℕ) → getD ds x 0 ≡ 1 → getD cs x 0 ≡ 1
-  pub black : found ≡ false → 1 < getD ds i 0
-  pub fewer : found ≡ false → white ds ≤ white cs
+  pub over : found ≡ false → Walking nodes edges ds []
+  pub seen : found ≡ false → (x : ℕ) → getD ds x 0 ≡ 0 → (getD cs x 0 ≡ 0) × (x ≡ i → ⊥)
 
 -- ---- the search along a choice list
 

@@ -101,12 +101,13 @@ fn named(row: [u32; 8], n: Lengths) -> bool
 fn rows_named(nodes: &[[u32; 8]], n: Lengths) -> bool
     ensures { λ r. ⌜ Told (RowsNamed n (now (nodes .entry))) r ⌝ }
 {
-    let mut i: usize = 0;
-    while i < nodes.len() {
+    let mut left = nodes.len();
+    while left > 0 {
+        let i = nodes.len() - left;
         if !named(nodes[i], n) {
             return false;
         }
-        i += 1;
+        left -= 1;
     }
     true
 }

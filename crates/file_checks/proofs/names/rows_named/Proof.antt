@@ -1,23 +1,28 @@
 use borrow.Author.Needs.{needs}
-use Rattle.file_checks.specs.Tells.{tell-yes, tell-no}
-use Rattle.file_checks.specs.References.{Named}
+use native.Mathlib.Omega.{arith}
 use borrow.Author.Tests.{not-true, not-false}
 use borrow.Author.Count.{below-more}
+use denote.Ref.{now}
 use mathlib.Core.List.{[]}
-use lib.ListN.{length, getD}
 use Prim.Native.Nat.{ℕ, _-_, _≤_, _<_}
-use native.Mathlib.Omega.{arith}
+use lib.ListN.{length, getD}
+use Rattle.file_checks.specs.References.{Named}
+use Rattle.file_checks.specs.Tells.{tell-yes, tell-no}
 use Rattle.file_checks.proofs.names.rows_named.Statement.{statement}
 use Rattle.file_checks.proofs.names.rows_named.Tie as tie
 
 abbrev Inv-loop : tie.InvT-loop
-Inv-loop nodes n i₀ i = (i ≤ length nodes) × ((m : ℕ) → m < i → Named n (getD nodes m []))
+Inv-loop nodes n left₀ left = (left ≤ length nodes) × ((m : ℕ) → m < length nodes - left → Named n (getD nodes m []))
 
 abbrev μ-loop : tie.MeasureT-loop
-μ-loop nodes n i₀ i = length nodes - i
+μ-loop nodes n left₀ left = left
 
 loop-holds : tie.Need-loop-holds Inv-loop μ-loop
-loop-holds c = (omega arith, λ m h. absurd (omega arith))
+loop-holds c =
+    (omega arith, λ m h. absurd (omega arith))
+
+sub-i : tie.Need-sub-i Inv-loop μ-loop
+sub-i c = search needs
 
 mul-named : tie.Need-mul-named Inv-loop μ-loop
 mul-named c = search needs
@@ -29,19 +34,23 @@ named-requires : tie.Need-named-requires Inv-loop μ-loop
 named-requires c κs = search needs
 
 returns : tie.Need-returns Inv-loop μ-loop
-returns c = tell-no (λ z. c .before .named .ensures .no (not-true _ (c .if1 .taken)) (z .each (c .before .before .before .before .loop .i) (c .before .before .before .loop-test .taken)))
+returns c =
+    tell-no (λ z. c .before .named .ensures .no (not-true _ (c .if1 .taken)) (z .each (length (now (c .before .before .before .before .before .args .nodes)) - c .before .before .before .before .loop .left) (omega arith)))
 
-add-i : tie.Need-add-i Inv-loop μ-loop
-add-i c = search needs
+sub-left : tie.Need-sub-left Inv-loop μ-loop
+sub-left c = search needs
 
 loop-less : tie.Need-loop-less Inv-loop μ-loop
 loop-less c = search needs
 
 loop-again : tie.Need-loop-again Inv-loop μ-loop
-loop-again c = (omega arith, below-more _ _ (c .before .before .before .before .loop .inv .1) (c .before .named .ensures .yes (not-false _ (c .if1 .left))))
+loop-again c =
+    let l = c .before .before .before .before .loop in
+    (omega arith, λ m h. below-more _ _ (l .inv .1) (c .before .named .ensures .yes (not-false _ (c .if1 .left))) m (omega arith))
 
 returns-2 : tie.Need-returns-2 Inv-loop μ-loop
-returns-2 c = tell-yes (record { each = λ k h. c .before .loop .inv .1 k (omega arith) })
+returns-2 c =
+    tell-yes (record { each = λ m h. c .before .loop .inv .1 m (omega arith) })
 
 pub rows-named-spec : {M : Type 1} → statement M
 rows-named-spec =
@@ -50,11 +59,12 @@ rows-named-spec =
     Inv-loop
     μ-loop
     loop-holds
+    sub-i
     mul-named
     shared-slice-copy-out-named
     named-requires
     returns
-    add-i
+    sub-left
     loop-less
     loop-again
     returns-2)
