@@ -108,16 +108,17 @@ uint32_t gannozhi_render(
     gannozhi_span *spans, size_t spans_length,      /* spans */
     uint64_t answer[GANNOZHI_ANSWER]);
 
-/* The counts of a file's tables. */
+/* The counts that a file has, with its root and space text; and how many bytes its texts have together, which only a reader tells. */
 enum {
     GANNOZHI_NODE_COUNT,
     GANNOZHI_EDGE_COUNT,
     GANNOZHI_CHOICE_COUNT,
     GANNOZHI_TEXT_COUNT,
-    GANNOZHI_BYTE_COUNT,
     GANNOZHI_ANNOTATION_COUNT,
     GANNOZHI_ROOT,
     GANNOZHI_SPACE,
+    GANNOZHI_FILE_COUNTS,
+    GANNOZHI_BYTE_COUNT = GANNOZHI_FILE_COUNTS,
     GANNOZHI_COUNTS
 };
 
@@ -132,11 +133,11 @@ uint32_t gannozhi_read(
     uint8_t *bytes, size_t bytes_length,
     uint32_t counts[GANNOZHI_COUNTS]);
 
-/* The one file that reads back to the tables, which stay as they are: 0, or the number of the refusal (1, 3, 4, 6 to 10, 20). `size` is
- * then the number of bytes written, or for 20 needed, else 0. A refusal alters no byte of `out`; past the file they are unaltered.
- * GANNOZHI_BYTE_COUNT is not read: it is the sum of the texts' lengths. */
+/* The one file that reads back to the counts and the tables, which stay as they are: 0, or the number of the refusal (1, 3, 4, 6 to 10, 20).
+ * `size` is then the number of bytes written, or for 20 needed, else 0. A refusal alters no byte of `out`; past the file they are unaltered.
+ * Of `bytes` as many are taken as the texts' lengths say together. */
 uint32_t gannozhi_write(
-    const uint32_t counts[GANNOZHI_COUNTS],
+    const uint32_t counts[GANNOZHI_FILE_COUNTS],
     uint32_t (*nodes)[8], size_t nodes_length,
     const uint32_t *edges, size_t edges_length,
     const uint32_t *choices, size_t choices_length,

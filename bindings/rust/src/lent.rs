@@ -115,10 +115,30 @@ pub struct TableCounts {
     pub edges: u32,
     pub choices: u32,
     pub texts: u32,
-    pub bytes: u32,
     pub annotations: u32,
     pub root: u32,
     pub space: u32,
+    /// How many bytes the texts have together.
+    pub bytes: u32,
+}
+
+/// Those of them that a file says itself: how many bytes its texts have together is the sum of their lengths.
+#[derive(Clone, Copy, Debug, Default, Eq, PartialEq)]
+pub struct FileCounts {
+    pub nodes: u32,
+    pub edges: u32,
+    pub choices: u32,
+    pub texts: u32,
+    pub annotations: u32,
+    pub root: u32,
+    pub space: u32,
+}
+
+impl From<TableCounts> for FileCounts {
+    fn from(counts: TableCounts) -> FileCounts {
+        let TableCounts { nodes, edges, choices, texts, annotations, root, space, bytes: _ } = counts;
+        FileCounts { nodes, edges, choices, texts, annotations, root, space }
+    }
 }
 
 /// The file's tables, up to the counts; or the number of the refusal (1 to 10).
@@ -145,14 +165,14 @@ pub fn read_lent(file: &[u8], tables: TableMemory) -> Result<TableCounts, u32> {
     if number != 0 {
         return Err(number);
     }
-    let [nodes, edges, choices, texts, bytes, annotations, root, space] = words;
-    Ok(TableCounts { nodes, edges, choices, texts, bytes, annotations, root, space })
+    let [nodes, edges, choices, texts, annotations, root, space, bytes] = words;
+    Ok(TableCounts { nodes, edges, choices, texts, annotations, root, space, bytes })
 }
 
-/// Tables to be written: each at least as long as its count.
+/// Tables to be written: each at least as long as its count, and the bytes as the lengths of the texts together.
 #[derive(Clone, Copy)]
 pub struct FileTables<'a> {
-    pub counts: TableCounts,
+    pub counts: FileCounts,
     pub nodes: &'a [[u32; 8]],
     pub edges: &'a [u32],
     pub choices: &'a [u32],
@@ -165,7 +185,7 @@ pub type Written = Result<usize, (u32, usize)>;
 
 pub fn write_lent(tables: FileTables, out: &mut [u8]) -> Written {
     let n = tables.counts;
-    let words = [n.nodes, n.edges, n.choices, n.texts, n.bytes, n.annotations, n.root, n.space];
+    let words = [n.nodes, n.edges, n.choices, n.texts, n.annotations, n.root, n.space];
     let mut size = 0usize;
     // SAFETY: as in `render_lent`.
     let number = unsafe {

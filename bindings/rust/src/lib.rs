@@ -7,7 +7,8 @@ mod lent;
 mod raw;
 
 pub use lent::{
-    read_lent, render_lent, write_lent, FileTables, Rendered, SolverMemory, TableCounts, TableMemory, Written,
+    read_lent, render_lent, write_lent, FileCounts, FileTables, Rendered, SolverMemory, TableCounts, TableMemory,
+    Written,
 };
 
 /// The settings of a call. A width of 0 and a policy above 1 are refused by 1.

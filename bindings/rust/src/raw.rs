@@ -64,7 +64,7 @@ extern "C" {
     ) -> u32;
 
     pub fn gannozhi_write(
-        counts: *const [u32; 8],
+        counts: *const [u32; 7],
         nodes: *const [u32; 8],
         nodes_length: usize,
         edges: *const u32,

@@ -101,7 +101,7 @@ fn read_and_written_again() {
     for Sample { name, prepared, .. } in samples() {
         let (nodes, edges, choices, texts, bytes) = (&mut nodes, &mut edges, &mut choices, &mut texts, &mut bytes);
         let counts = read_lent(&prepared, TableMemory { nodes, edges, choices, texts, bytes }).expect(&name);
-        let tables = FileTables { counts, nodes, edges, choices, texts, bytes };
+        let tables = FileTables { counts: counts.into(), nodes, edges, choices, texts, bytes };
         let mut out = vec![0; prepared.len()];
         assert_eq!(write_lent(tables, &mut out), Ok(prepared.len()), "{name}");
         assert!(out == prepared, "{name}");

@@ -1,32 +1,34 @@
--- The writer refuses tables by 4 as the reader would their file: where no record has a word that no field can carry (3), the reader's refusal of the encoding is the tables'.
+-- The writer refuses tables by 3 and 4 as the reader would their file: of tables that bytes can say (`Sayable`), the reader's refusal of the encoding is the tables'.
+-- And what bytes cannot say is refused too: tables without a refusal of 3 and 4 are such.
 use mathlib.Core.Path.{_≡_, refl, sym, ap, _∙_}
 use mathlib.Core.Bool.{Bool, true, false, true≢false}
 use mathlib.Core.List.{List, [], _∷_, _++_, append-assoc, append-nil}
 use Prim.Native.Nat.{ℕ, zero, suc, _+_, _≤_, _<_}
 use native.Mathlib.Omega.{arith}
 use lib.ListN.{length, getD, take, drop}
-use lib.Seq.{drop-cons, take-length}
-use lib.Dec.{leb}
-use borrow.Author.Tests.{eq-eqb, ne-eqb, le-leb, lt-leb, leb-true, leb-false}
-use Rattle.file_tables.specs.Tables.{Tables, width, byte-length, byte-start}
+use lib.Seq.{drop-cons, take-suc, take-length}
+use lib.Dec.{ltb, leb, eqb}
+use borrow.Author.Tests.{eq-eqb, ne-eqb, le-leb, lt-leb, leb-true, leb-false, ltb-true, eqb-false}
+use Rattle.file_tables.specs.Tables.{Tables, kind, flat-mark, flat-word, width, byte-length, byte-start}
 use Rattle.file_fields.specs.declared.Step.{Step}
 use Rattle.file_fields.specs.Fields.{pick, got, refused, after, bit, byteAt, fieldAt, numberAt, limited, countAt, formed}
 use Rattle.file_fields.specs.Header.{hMap, hNodes, hEdges, hTexts, hAnnotations, hChoices, hRoot, hSpace, headerAt}
-use Rattle.file_form.specs.Kinds.{both}
-use Rattle.file_form.specs.Nodes.{checked, mapAt, kindAt, nMap, nKind, nFirst, nSecond, nFlat, nStart, nLength, nSkipped, nodeAt, afterNodes}
+use Rattle.file_form.specs.Kinds.{both, only, mapRight, pairRight}
+use Rattle.file_form.specs.Nodes.{checked, mapAt, kindAt, nMap, nKind, nFirst, nSecond, nFlat, nStart, nLength, nSkipped, nodeAt, afterNodes, nodeRows}
 use Rattle.file_form.specs.Numbers.{afterNumbers, surplus}
 use Rattle.file_form.specs.declared.texts.Run.{Run}
 use Rattle.file_form.specs.Texts.{totalled, spanAt, tMap, tWidth, tLength, tEnd, afterTexts}
 use Rattle.file_form.specs.Form.{fNodes, fEdges, fChoices, fTexts, fEnd, formFault}
-use Rattle.file_encode.specs.Encode.{present, enc32, encField, headerMap, encHeader, encNode, textMap, encText, encTexts, each, encode, lengths, Sized}
-use Rattle.file_encode.specs.Faults.{orElse, unless, countFault, headerFault, nodesFault, textsFault, tablesFault}
-use Rattle.file_encode.specs.Fields.{At, at-is, byte-there, field-there, count-there, formed-there}
+use Rattle.file_encode.specs.Encode.{present, marked, nodeMap, enc32, encField, headerMap, encHeader, encNode, textMap, encText, encTexts, each, encode, lengths, Sized}
+use Rattle.file_encode.specs.Faults.{orElse, unless, countFault, headerFault, nodeRight, nodesFault, textsFault, tablesFault}
+use Rattle.file_encode.specs.Sayable.{NodeSayable, Starts, Sayable}
+use Rattle.file_encode.specs.Fields.{At, at-is, byte-there, field-there, count-there, checked-there, formed-there}
 use Rattle.file_encode.specs.HeaderTrip.{header-there, regroup, map-high}
-use Rattle.file_encode.specs.NodeTrip.{nodes-there}
+use Rattle.file_encode.specs.NodeTrip.{or-none, flat-absent, nodes-right-at, nodes-fault-snoc, ReadNodes, nodes-next, nodes-on, nodes-there}
 use Rattle.file_encode.specs.NumberTrip.{numbers-there}
-use Rattle.file_encode.specs.TextTrip.{ReadTexts, texts-none-yet, texts-step, texts-cons, lengths-suc, regroup as regroup3, map-high as map-high2}
-use Rattle.file_encode.specs.Trips.{header-in, surplus-there, each-none, texts-none}
-use Rattle.file_encode.specs.Maps.{at1, at2, at4, at8, at16, at32, at64, bit-is, both-true}
+use Rattle.file_encode.specs.TextTrip.{ReadTexts, texts-none-yet, texts-step, texts-cons, texts-at, lengths-suc, regroup as regroup3, map-high as map-high2}
+use Rattle.file_encode.specs.Trips.{header-in, surplus-there, each-none, texts-none, tables-right}
+use Rattle.file_encode.specs.Maps.{at1, at2, at4, at8, at16, at32, at64, bit-is, both-true, both-is}
 
 -- ---- a refusal stays
 
@@ -71,16 +73,24 @@ span-stuck : (s : List ℕ) (p : Step) (m : ℕ) → p .fault ≡ suc m → span
 unfolding spanAt
 span-stuck s p m e = rw (ne-eqb (p .fault) 0 (λ z. omega (arith, e, z))) e
 
-node-stuck : (s : List ℕ) (p : Step) (m : ℕ) → p .fault ≡ suc m → nodeAt s p .next .fault ≡ suc m
-unfolding nodeAt nMap nKind nFirst nSecond nFlat nStart nLength nSkipped mapAt kindAt
-node-stuck s p m e =
+-- a refusal at the kind byte, at the map byte, before the record
+kind-stuck : (s : List ℕ) (p : Step) (m : ℕ) → nKind s p .fault ≡ suc m → nodeAt s p .next .fault ≡ suc m
+unfolding nodeAt nFirst nSecond nFlat nStart nLength nSkipped
+kind-stuck s p m e =
     field-stuck s _ (nLength s p) m
     (field-stuck s _ (nStart s p) m
     (field-stuck s _ (nFlat s p) m
     (number-stuck s _ (nSecond s p) m
     (field-stuck s _ (nFirst s p) m
-    (field-stuck s _ (nKind s p) m
-    (checked-stuck _ (byteAt s (nMap s p)) m (byte-stuck s (nMap s p) m (checked-stuck _ (byteAt s p) m (byte-stuck s p m e)))))))))
+    (field-stuck s _ (nKind s p) m e)))))
+
+map-stuck : (s : List ℕ) (p : Step) (m : ℕ) → nMap s p .fault ≡ suc m → nodeAt s p .next .fault ≡ suc m
+unfolding nKind kindAt
+map-stuck s p m e = kind-stuck s p m (checked-stuck _ (byteAt s (nMap s p)) m (byte-stuck s (nMap s p) m e))
+
+node-stuck : (s : List ℕ) (p : Step) (m : ℕ) → p .fault ≡ suc m → nodeAt s p .next .fault ≡ suc m
+unfolding nMap mapAt
+node-stuck s p m e = map-stuck s p m (checked-stuck _ (byteAt s p) m (byte-stuck s p m e))
 
 nodes-stuck : (s : List ℕ) (p : Step) (k m : ℕ) → p .fault ≡ suc m → afterNodes s p k .fault ≡ suc m
 unfolding afterNodes
@@ -104,15 +114,18 @@ unfolding afterTexts
 texts-stuck s p zero m e = e
 texts-stuck s p (suc k) m e = text-stuck s (afterTexts s p k .total) (afterTexts s p k .next) m (texts-stuck s p k m e)
 
--- a refusal of the header is that of the file
-pub header-refuses : (s : List ℕ) (m : ℕ) → headerAt s .next .fault ≡ suc m → formFault s ≡ suc m
-unfolding formFault fEnd fTexts fChoices fEdges fNodes
-header-refuses s m e =
+-- a refusal of the nodes is that of the file, and so is one of the header
+nodes-refuse : (s : List ℕ) (m : ℕ) → fNodes s .fault ≡ suc m → formFault s ≡ suc m
+unfolding formFault fEnd fTexts fChoices fEdges
+nodes-refuse s m e =
     let h = headerAt s in
-    let n = nodes-stuck s (h .next) (h .nodes) m e in
-    let d = numbers-stuck s (fNodes s) (h .edges) m n in
+    let d = numbers-stuck s (fNodes s) (h .edges) m e in
     let c = numbers-stuck s (fEdges s) (h .choices) m d in
     surplus-stuck s (fTexts s .next) m (texts-stuck s (fChoices s) (h .texts) m c)
+
+pub header-refuses : (s : List ℕ) (m : ℕ) → headerAt s .next .fault ≡ suc m → formFault s ≡ suc m
+unfolding fNodes
+header-refuses s m e = nodes-refuse s m (nodes-stuck s (headerAt s .next) (headerAt s .nodes) m e)
 
 -- ---- a count outside its limits
 
@@ -150,10 +163,6 @@ count-step s on low high p v rest F R o h more stuck = go (both (leb low v) (leb
         let k = both-true (leb low v) (leb v high) e in
         rw e (more (count-there s on low high p v rest o (leb-true low v (k .0)) (leb-true v high (k .1)) h .next))
     go false e = rw e (stuck 3 (count-fails s on low high p v rest o e h))
-
-or-none : (a : ℕ) → orElse a 0 ≡ a
-or-none zero = refl
-or-none (suc a) = refl
 
 -- the reader refuses the header of any seven numbers as the writer does
 pub header-as-read : (s : List ℕ) (n e x a c r w : ℕ) (rest : List ℕ) → s ≡ encHeader n e x a c r w ++ rest → headerAt s .next .fault ≡ headerFault n e x a c
@@ -202,6 +211,72 @@ header-alike t m e =
     header-refuses (encode t) m
     (header-as-read (encode t) (length (t .nodes)) (length (t .edges)) (length (t .texts)) (t .annotations) (length (t .choices)) (t .root) (t .space) _ refl ∙ e)
 
+-- ---- the nodes
+
+checked-fails : (ok : Bool) (f : Step) → ok ≡ false → f .fault ≡ 0 → checked ok f .fault ≡ 3
+unfolding checked
+checked-fails ok f e z = rw (eq-eqb (f .fault) 0 z, e)
+
+-- an unmarked flat node is absent
+flat-right : (row : List ℕ) → NodeSayable row → only (present (flat-word row)) (marked row) ≡ true
+flat-right row y = go (eqb (flat-mark row) 1) refl
+  where
+    go : (b : Bool) → eqb (flat-mark row) 1 ≡ b → only (present (flat-word row)) b ≡ true
+    go true e = refl
+    go false e =
+        let n = eqb-false (flat-mark row) 1 e in
+        let z : flat-mark row ≡ 0 = omega (arith, y .mark-bit, n) in
+        rw (y .unmarked z)
+
+-- of a row that bytes can say, what is wrong is its map byte or its kind
+node-right : (row : List ℕ) → NodeSayable row → mapRight (nodeMap row) ≡ true → pairRight (nodeMap row) (kind row) ≡ true → nodeRight row ≡ true
+unfolding nodeRight
+node-right row y a b = both-is _ _ a (both-is _ _ b (both-is _ _ (le-leb (flat-mark row) 1 (omega (arith, y .mark-bit))) (flat-right row y)))
+
+node-fails : (s : List ℕ) (p : Step) (row rest : List ℕ) → NodeSayable row → nodeRight row ≡ false → At s p (encNode row ++ rest) → nodeAt s p .next .fault ≡ 3
+unfolding nMap nKind mapAt kindAt encNode
+node-fails s p row rest y w h = go (mapRight (nodeMap row)) (pairRight (nodeMap row) (kind row)) refl refl
+  where
+    go : (a b : Bool) → mapRight (nodeMap row) ≡ a → pairRight (nodeMap row) (kind row) ≡ b → nodeAt s p .next .fault ≡ 3
+    go false b ea eb =
+        let m₀ = byte-there s p (nodeMap row) _ h in
+        map-stuck s p 2 (checked-fails (mapRight (byteAt s p .value)) (byteAt s p) (rw (m₀ .value) ea) (m₀ .next .fine))
+    go true false ea eb =
+        let m₀ = byte-there s p (nodeMap row) _ h in
+        let m = checked-there s (mapRight (byteAt s p .value)) (byteAt s p) (nodeMap row) _ (rw (m₀ .value) ea) m₀ in
+        let k₀ = byte-there s (nMap s p) (kind row) _ (m .next) in
+        kind-stuck s p 2 (checked-fails (pairRight (nMap s p .value) (byteAt s (nMap s p) .value)) (byteAt s (nMap s p)) (rw (k₀ .value, m .value) eb) (k₀ .next .fine))
+    go true true ea eb = absurd (true≢false (sym (node-right row y ea eb) ∙ w))
+
+-- after k nodes: all were read, or one was refused
+data AlongNodes (s : List ℕ) (p : Step) (rows : List (List ℕ)) (rest : List ℕ) (k : ℕ) : Type 0 where
+  read : nodesFault (take k rows) ≡ 0 → ReadNodes s p rows rest k → AlongNodes s p rows rest k
+  failed : nodesFault (take k rows) ≡ 3 → afterNodes s p k .fault ≡ 3 → AlongNodes s p rows rest k
+
+one-more : (rows : List (List ℕ)) (k : ℕ) → k < length rows → nodesFault (take (suc k) rows) ≡ orElse (nodesFault (take k rows)) (unless (nodeRight (getD rows k [])) 3)
+one-more rows k lt = rw (take-suc rows k [] lt) (nodes-fault-snoc (take k rows) (getD rows k []))
+
+nodes-step : (s : List ℕ) (p : Step) (rows : List (List ℕ)) (rest : List ℕ) (k : ℕ)
+    → length (getD rows k []) ≡ 8 → NodeSayable (getD rows k []) → k < length rows → AlongNodes s p rows rest k → AlongNodes s p rows rest (suc k)
+unfolding afterNodes
+nodes-step s p rows rest k wide y lt (failed e f) = failed (one-more rows k lt ∙ rw e) (node-stuck s (afterNodes s p k) 2 f)
+nodes-step s p rows rest k wide y lt (read e r) = go (nodeRight (getD rows k [])) refl
+  where
+    go : (b : Bool) → nodeRight (getD rows k []) ≡ b → AlongNodes s p rows rest (suc k)
+    go true w = read (one-more rows k lt ∙ rw (e, w)) (nodes-on s p rows rest k wide w lt r)
+    go false w =
+        failed (one-more rows k lt ∙ rw (e, w))
+        (node-fails s (afterNodes s p k) (getD rows k []) (each encNode (drop (suc k) rows) ++ rest) y w (nodes-next s p rows rest k lt r))
+
+along-nodes : (s : List ℕ) (p : Step) (rows : List (List ℕ)) (rest : List ℕ)
+    → ((i : ℕ) → i < length rows → length (getD rows i []) ≡ 8) → ((i : ℕ) → i < length rows → NodeSayable (getD rows i [])) → At s p (each encNode rows ++ rest)
+    → (k : ℕ) → k ≤ length rows → AlongNodes s p rows rest k
+unfolding afterNodes nodeRows nodesFault
+along-nodes s p rows rest wide y h zero l = read refl (record { next = h; rows-are = refl })
+along-nodes s p rows rest wide y h (suc k) l =
+    let lt : k < length rows = omega arith in
+    nodes-step s p rows rest k (wide k lt) (y k lt) lt (along-nodes s p rows rest wide y h k (omega arith))
+
 -- ---- the texts
 
 total-fails : (total : ℕ) (f : Step) (v : ℕ) → f .fault ≡ 0 → f .value ≡ v → 65536 < total + v → totalled total f .fault ≡ 4
@@ -229,10 +304,6 @@ text-fails s total p row part rest limit h =
 data Along (s : List ℕ) (p : Step) (rows : List (List ℕ)) (bytes rest : List ℕ) (k : ℕ) : Type 0 where
   read : ReadTexts s p rows bytes rest k → lengths (take k rows) ≤ 65536 → Along s p rows bytes rest k
   failed : afterTexts s p k .next .fault ≡ 4 → 65536 < lengths (take k rows) → Along s p rows bytes rest k
-
--- every start is the running total
-pub record Starts (rows : List (List ℕ)) : Type 0 where
-  pub start : (i : ℕ) → i < length rows → byte-start (getD rows i []) ≡ lengths (take i rows)
 
 fails-at : (s : List ℕ) (p : Step) (rows : List (List ℕ)) (bytes rest : List ℕ) (k : ℕ) → k < length rows → ReadTexts s p rows bytes rest k
     → 65536 < lengths (take k rows) + byte-length (getD rows k []) → afterTexts s p (suc k) .next .fault ≡ 4
@@ -330,17 +401,57 @@ alike-at s t z h q starts is =
     let e₄ : fTexts s ≡ afterTexts s p₃ (length (t .texts)) = ap (λ (x : Step). afterTexts s x (headerAt s .texts)) e₃ ∙ ap (afterTexts s p₃) (he .texts) in
     ap (λ (x : Run). surplus s (x .next) .fault) e₄ ∙ texts-end s p₃ (t .texts) (t .bytes) starts al
 
-fine-alike : (t : Tables) → Sized t → headerFault (length (t .nodes)) (length (t .edges)) (length (t .texts)) (t .annotations) (length (t .choices)) ≡ 0
-    → nodesFault (t .nodes) ≡ 0 → Starts (t .texts) → formFault (encode t) ≡ textsFault 0 (t .texts)
-unfolding encode
-fine-alike t z e q starts = alike-at (encode t) t z e q starts refl
+-- where the nodes are refused the file is, and otherwise its refusal is that of the texts
+nodes-end : (s : List ℕ) (t : Tables) (rest : List ℕ) → headerAt s .nodes ≡ length (t .nodes) → AlongNodes s (headerAt s .next) (t .nodes) rest (length (t .nodes))
+    → (nodesFault (t .nodes) ≡ 0 → formFault s ≡ textsFault 0 (t .texts)) → formFault s ≡ orElse (nodesFault (t .nodes)) (textsFault 0 (t .texts))
+unfolding fNodes
+nodes-end s t rest e (read z r) more = let q = sym (ap nodesFault (take-length (t .nodes))) ∙ z in rw q (more q)
+nodes-end s t rest e (failed z f) more =
+    let q = sym (ap nodesFault (take-length (t .nodes))) ∙ z in
+    rw q (nodes-refuse s 2 (ap (λ (k : ℕ). afterNodes s (headerAt s .next) k .fault) e ∙ f))
 
--- where no record has a word that no field can carry, the refusal of tables is that of their file
-pub alike : (t : Tables) → Sized t → nodesFault (t .nodes) ≡ 0 → Starts (t .texts) → formFault (encode t) ≡ tablesFault t
+fine-alike : (t : Tables) → Sayable t → headerFault (length (t .nodes)) (length (t .edges)) (length (t .texts)) (t .annotations) (length (t .choices)) ≡ 0
+    → formFault (encode t) ≡ orElse (nodesFault (t .nodes)) (textsFault 0 (t .texts))
+unfolding encode
+fine-alike t y e =
+    let he = header-there (encode t) (length (t .nodes)) (length (t .edges)) (length (t .texts)) (t .annotations) (length (t .choices)) (t .root) (t .space) _ (header-in _ _ _ _ _ e) refl in
+    nodes-end (encode t) t _ (he .nodes)
+    (along-nodes (encode t) (headerAt (encode t) .next) (t .nodes) _ (y .sized .node-rows) (y .nodes) (he .next) (length (t .nodes)) (omega arith))
+    (λ q. alike-at (encode t) t (y .sized) e q (y .texts) refl)
+
+-- the refusal of tables that bytes can say is that of their file
+pub alike : (t : Tables) → Sayable t → formFault (encode t) ≡ tablesFault t
 unfolding tablesFault
-alike t z q starts = go (headerFault (length (t .nodes)) (length (t .edges)) (length (t .texts)) (t .annotations) (length (t .choices))) refl
+alike t y = go (headerFault (length (t .nodes)) (length (t .edges)) (length (t .texts)) (t .annotations) (length (t .choices))) refl
   where
     go : (f : ℕ) → headerFault (length (t .nodes)) (length (t .edges)) (length (t .texts)) (t .annotations) (length (t .choices)) ≡ f
         → formFault (encode t) ≡ orElse (headerFault (length (t .nodes)) (length (t .edges)) (length (t .texts)) (t .annotations) (length (t .choices))) (orElse (nodesFault (t .nodes)) (textsFault 0 (t .texts)))
-    go zero e = rw (e, q) (fine-alike t z e q starts)
+    go zero e = rw e (fine-alike t y e)
     go (suc m) e = rw e (header-alike t m e)
+
+-- ---- tables that are right can be said
+
+kind-below : (m k : ℕ) → pairRight m k ≡ true → k < 12
+unfolding pairRight
+kind-below m k e = ltb-true k 12 (both-true (ltb k 12) _ e .0)
+
+node-sayable : (row : List ℕ) → nodeRight row ≡ true → NodeSayable row
+unfolding nodeRight
+node-sayable row e =
+    let b₁ = both-true (mapRight (nodeMap row)) _ e in
+    let b₂ = both-true (pairRight (nodeMap row) (kind row)) _ (b₁ .1) in
+    let b₃ = both-true (leb (flat-mark row) 1) _ (b₂ .1) in
+    record {
+      kind-byte = omega (arith, kind-below (nodeMap row) (kind row) (b₂ .0));
+      mark-bit = omega (arith, leb-true (flat-mark row) 1 (b₃ .0));
+      unmarked = λ z. flat-absent (flat-word row) (marked row) (b₃ .1) (ap (λ (m : ℕ). eqb m 1) z);
+    }
+
+pub right-sayable : (t : Tables) → Sized t → tablesFault t ≡ 0 → Sayable t
+right-sayable t z e =
+    let r = tables-right t e in
+    record {
+      sized = z;
+      nodes = λ i l. node-sayable (getD (t .nodes) i []) (nodes-right-at (t .nodes) i (r .nodes) l);
+      texts = record { start = λ i l. texts-at 0 (t .texts) i (r .texts) l .0 ∙ omega arith };
+    }

@@ -85,7 +85,7 @@ row8 (a ∷ b ∷ c ∷ d ∷ f ∷ g ∷ h ∷ []) e = absurd (omega arith)
 row8 (a ∷ b ∷ c ∷ d ∷ f ∷ g ∷ h ∷ i ∷ []) e = refl
 row8 (a ∷ b ∷ c ∷ d ∷ f ∷ g ∷ h ∷ i ∷ j ∷ r) e = absurd (omega arith)
 
-flat-absent : (v : ℕ) (on : Bool) → only (present v) on ≡ true → on ≡ false → v ≡ 0
+pub flat-absent : (v : ℕ) (on : Bool) → only (present v) on ≡ true → on ≡ false → v ≡ 0
 flat-absent v true e z = absurd (true≢false z)
 flat-absent zero false e z = refl
 flat-absent (suc v) false e z = let h : present (suc v) ≡ true = lt-ltb 0 (suc v) (omega arith) in absurd (true≢false (sym (rw h at e)))
@@ -156,12 +156,21 @@ unfolding each
 each-snoc f [] y = append-nil (f y)
 each-snoc f (x ∷ xs) y = rw (each-snoc f xs y) (sym (append-assoc (f x) (each f xs) (f y)))
 
-nodes-right-snoc : (rows : List (List ℕ)) (row : List ℕ) → nodesFault rows ≡ 0 → nodeRight row ≡ true → nodesFault (rows ++ (row ∷ [])) ≡ 0
+pub or-none : (a : ℕ) → orElse a 0 ≡ a
+or-none zero = refl
+or-none (suc a) = refl
+
+or-assoc : (a b c : ℕ) → orElse a (orElse b c) ≡ orElse (orElse a b) c
+or-assoc zero b c = refl
+or-assoc (suc a) b c = refl
+
+pub nodes-fault-snoc : (rows : List (List ℕ)) (row : List ℕ) → nodesFault (rows ++ (row ∷ [])) ≡ orElse (nodesFault rows) (unless (nodeRight row) 3)
 unfolding nodesFault
-nodes-right-snoc [] row e r = or-is _ 0 (unless-is (nodeRight row) 3 r) refl
-nodes-right-snoc (x ∷ rows) row e r =
-    let o = or-zero (unless (nodeRight x) 3) (nodesFault rows) e in
-    or-is _ _ (o .0) (nodes-right-snoc rows row (o .1) r)
+nodes-fault-snoc [] row = or-none (unless (nodeRight row) 3)
+nodes-fault-snoc (x ∷ rows) row = rw (nodes-fault-snoc rows row) (or-assoc (unless (nodeRight x) 3) (nodesFault rows) (unless (nodeRight row) 3))
+
+nodes-right-snoc : (rows : List (List ℕ)) (row : List ℕ) → nodesFault rows ≡ 0 → nodeRight row ≡ true → nodesFault (rows ++ (row ∷ [])) ≡ 0
+nodes-right-snoc rows row e r = nodes-fault-snoc rows row ∙ or-is _ _ e (unless-is (nodeRight row) 3 r)
 
 pub nodes-right-at : (rows : List (List ℕ)) (k : ℕ) → nodesFault rows ≡ 0 → k < length rows → nodeRight (getD rows k []) ≡ true
 unfolding nodesFault
@@ -206,15 +215,26 @@ pub record ReadNodes (s : List ℕ) (p : Step) (rows : List (List ℕ)) (rest : 
   pub next : At s (afterNodes s p k) (each encNode (drop k rows) ++ rest)
   pub rows-are : nodeRows s p k ≡ take k rows
 
+-- the next record, where the first k are read back
+pub nodes-next : (s : List ℕ) (p : Step) (rows : List (List ℕ)) (rest : List ℕ) (k : ℕ) → k < length rows → ReadNodes s p rows rest k
+    → At s (afterNodes s p k) (encNode (getD rows k []) ++ (each encNode (drop (suc k) rows) ++ rest))
+nodes-next s p rows rest k lt r =
+    let e : each encNode (drop k rows) ≡ encNode (getD rows k []) ++ each encNode (drop (suc k) rows) = ap (each encNode) (drop-cons rows k [] lt) ∙ each-cons encNode (getD rows k []) (drop (suc k) rows) in
+    at-is (r .next) (rw e (append-assoc (encNode (getD rows k [])) (each encNode (drop (suc k) rows)) rest))
+
+-- one node more is read back
+pub nodes-on : (s : List ℕ) (p : Step) (rows : List (List ℕ)) (rest : List ℕ) (k : ℕ)
+    → length (getD rows k []) ≡ 8 → nodeRight (getD rows k []) ≡ true → k < length rows → ReadNodes s p rows rest k → ReadNodes s p rows rest (suc k)
+unfolding afterNodes nodeRows
+nodes-on s p rows rest k wide right lt r =
+    let n = node-there s (afterNodes s p k) (getD rows k []) (each encNode (drop (suc k) rows) ++ rest) wide right (nodes-next s p rows rest k lt r) in
+    record { next = n .next; rows-are = rw (r .rows-are, n .row-is) (sym (take-suc rows k [] lt)) }
+
 pub nodes-there : (s : List ℕ) (p : Step) (rows : List (List ℕ)) (rest : List ℕ)
     → ((i : ℕ) → i < length rows → length (getD rows i []) ≡ 8) → nodesFault rows ≡ 0 → At s p (each encNode rows ++ rest)
     → (k : ℕ) → k ≤ length rows → ReadNodes s p rows rest k
 unfolding afterNodes nodeRows
 nodes-there s p rows rest wide right h zero l = record { next = h; rows-are = refl }
 nodes-there s p rows rest wide right h (suc k) l =
-    let r = nodes-there s p rows rest wide right h k (omega arith) in
     let lt : k < length rows = omega arith in
-    let e : each encNode (drop k rows) ≡ encNode (getD rows k []) ++ each encNode (drop (suc k) rows) = ap (each encNode) (drop-cons rows k [] lt) ∙ each-cons encNode (getD rows k []) (drop (suc k) rows) in
-    let n = node-there s (afterNodes s p k) (getD rows k []) (each encNode (drop (suc k) rows) ++ rest) (wide k lt) (nodes-right-at rows k right lt)
-    (at-is (r .next) (rw e (append-assoc (encNode (getD rows k [])) (each encNode (drop (suc k) rows)) rest))) in
-    record { next = n .next; rows-are = rw (r .rows-are, n .row-is) (sym (take-suc rows k [] lt)) }
+    nodes-on s p rows rest k (wide k lt) (nodes-right-at rows k right lt) lt (nodes-there s p rows rest wide right h k (omega arith))

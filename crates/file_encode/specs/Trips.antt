@@ -126,11 +126,12 @@ encoded s z h =
 pub one-file : (s s′ : List ℕ) → Bytes s → Bytes s′ → formFault s ≡ 0 → formFault s′ ≡ 0 → tablesOf s ≡ tablesOf s′ → s ≡ s′
 one-file s s′ z z′ h h′ e = sym (encoded s z h .file) ∙ ap encode e ∙ encoded s′ z′ h′ .file
 
--- ---- the encoding of right tables reads back to them
+-- ---- the encoding of right tables reads back to them and to their counts
 
 pub record ReadsBack (t : Tables) : Type 0 where
   pub fine : formFault (encode t) ≡ 0
   pub tables : tablesOf (encode t) ≡ t
+  pub counts : Counted t (countsOf (encode t))
 
 pub surplus-there : (s : List ℕ) (p : Step) → At s p [] → surplus s p .fault ≡ 0
 unfolding surplus
@@ -165,8 +166,8 @@ same-tables t u a b c d e f g h =
 reads-at : (s : List ℕ) (t : Tables) → Sized t → tablesFault t ≡ 0
     → s ≡ encHeader (length (t .nodes)) (length (t .edges)) (length (t .texts)) (t .annotations) (length (t .choices)) (t .root) (t .space)
     ++ (each encNode (t .nodes) ++ (each enc32 (t .edges) ++ (each enc32 (t .choices) ++ encTexts (t .texts) (t .bytes))))
-    → (formFault s ≡ 0) × (tablesOf s ≡ t)
-unfolding formFault fEnd fTexts fChoices fEdges fNodes tablesOf tablesFault
+    → (formFault s ≡ 0) × ((tablesOf s ≡ t) × Counted t (countsOf s))
+unfolding formFault fEnd fTexts fChoices fEdges fNodes tablesOf countsOf tablesFault
 reads-at s t z h is =
     let o = or-zero (headerFault (length (t .nodes)) (length (t .edges)) (length (t .texts)) (t .annotations) (length (t .choices))) (orElse (nodesFault (t .nodes)) (textsFault 0 (t .texts))) h in
     let q = or-zero (nodesFault (t .nodes)) (textsFault 0 (t .texts)) (o .1) in
@@ -184,20 +185,32 @@ reads-at s t z h is =
     let e₃ : fChoices s ≡ p₃ = ap (λ (x : Step). afterNumbers s x (headerAt s .choices)) e₂ ∙ ap (afterNumbers s p₂) (he .choices) in
     let e₄ : fTexts s ≡ afterTexts s p₃ (length (t .texts)) = ap (λ (x : Step). afterTexts s x (headerAt s .texts)) e₃ ∙ ap (afterTexts s p₃) (he .texts) in (
       ap (λ (x : Run). surplus s (x .next) .fault) e₄ ∙ surplus-there s (afterTexts s p₃ (length (t .texts)) .next) (at-is (tx .next) (texts-none (t .texts) _ [])),
-      same-tables t (tablesOf s)
-          (ap (nodeRows s (headerAt s .next)) (he .nodes) ∙ no .rows-are ∙ take-length (t .nodes))
-          (ap (λ (x : Step). numbers s x (headerAt s .edges)) e₁ ∙ ap (numbers s p₁) (he .edges) ∙ ed .numbers-are ∙ take-length (t .edges))
-          (ap (λ (x : Step). numbers s x (headerAt s .choices)) e₂ ∙ ap (numbers s p₂) (he .choices) ∙ ch .numbers-are ∙ take-length (t .choices))
-          (ap (λ (x : Step). textRows s x (headerAt s .texts)) e₃ ∙ ap (textRows s p₃) (he .texts) ∙ tx .rows-are ∙ take-length (t .texts))
-          (ap (λ (x : Step). textBytes s x (headerAt s .texts)) e₃ ∙ ap (textBytes s p₃) (he .texts) ∙ tx .bytes-are ∙ ap (λ (n : ℕ). take n (t .bytes)) e ∙ take-length (t .bytes))
-          (he .annotations)
-          (he .root)
-          (he .space),
+      (
+        same-tables t (tablesOf s)
+            (ap (nodeRows s (headerAt s .next)) (he .nodes) ∙ no .rows-are ∙ take-length (t .nodes))
+            (ap (λ (x : Step). numbers s x (headerAt s .edges)) e₁ ∙ ap (numbers s p₁) (he .edges) ∙ ed .numbers-are ∙ take-length (t .edges))
+            (ap (λ (x : Step). numbers s x (headerAt s .choices)) e₂ ∙ ap (numbers s p₂) (he .choices) ∙ ch .numbers-are ∙ take-length (t .choices))
+            (ap (λ (x : Step). textRows s x (headerAt s .texts)) e₃ ∙ ap (textRows s p₃) (he .texts) ∙ tx .rows-are ∙ take-length (t .texts))
+            (ap (λ (x : Step). textBytes s x (headerAt s .texts)) e₃ ∙ ap (textBytes s p₃) (he .texts) ∙ tx .bytes-are ∙ ap (λ (n : ℕ). take n (t .bytes)) e ∙ take-length (t .bytes))
+            (he .annotations)
+            (he .root)
+            (he .space),
+        record {
+          nodes = sym (he .nodes);
+          edges = sym (he .edges);
+          choices = sym (he .choices);
+          texts = sym (he .texts);
+          bytes = sym (ap (λ (x : Run). x .total) e₄ ∙ tx .total ∙ e);
+          annotations = sym (he .annotations);
+          root = sym (he .root);
+          space = sym (he .space);
+        },
+      ),
     )
 
 pub reads-back : (t : Tables) → Sized t → tablesFault t ≡ 0 → ReadsBack t
 unfolding encode
-reads-back t z h = let r = reads-at (encode t) t z h refl in record { fine = r .0; tables = r .1 }
+reads-back t z h = let r = reads-at (encode t) t z h refl in record { fine = r .0; tables = r .1 .0; counts = r .1 .1 }
 
 -- ---- what right tables have
 

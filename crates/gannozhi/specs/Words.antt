@@ -9,6 +9,7 @@ use Rattle.solve_workspace.specs.declared.RenderOptions.{RenderOptions}
 use Rattle.file_form.specs.declared.fill.Counts.{Counts}
 use Rattle.prepare.specs.declared.read.Answer.{Answer}
 use Rattle.prepare.specs.declared.read.Answer.the-variants.{Accepted, Refused as Ill}
+use Rattle.prepare.specs.declared.write.FileCounts.{FileCounts}
 use Rattle.prepare.specs.declared.write.Outcome.{Outcome}
 use Rattle.prepare.specs.declared.write.Outcome.the-variants.{Written, Refused as Unwritten}
 use Rattle.prepare.specs.File.{Reads}
@@ -75,9 +76,9 @@ refusals {file} {o} {output = output} {rows = rows} a n needed k e = bounded (su
 
 -- ---- reader and writer
 
--- nodes, edges, choice edges, texts, text bytes, annotations, root, space text
+-- nodes, edges, choice edges, texts, annotations, root, space text, as `write` takes them, then text bytes
 abbrev pub table-words : Counts → List ℕ
-table-words n = n .nodes ∷ n .edges ∷ n .choices ∷ n .texts ∷ n .bytes ∷ n .annotations ∷ n .root .0 ∷ n .space .0 ∷ []
+table-words n = n .nodes ∷ n .edges ∷ n .choices ∷ n .texts ∷ n .annotations ∷ n .root .0 ∷ n .space .0 ∷ n .bytes ∷ []
 
 -- the refusal's number, or 0 for an accepted file, whose counts are put; a refusal leaves the lent words as they were
 abbrev pub read-number : Answer → ℕ
@@ -103,17 +104,16 @@ pub record Read (s : List ℕ) (lent : Type 0) (nodes : List (List ℕ)) (edges 
   pub counts-are : counts ≡ read-words told was
   pub number-is : number ≡ read-number told
 
--- the tables' counts, as eight words give them
-abbrev pub counts : List ℕ → Counts
+-- the counts that a file has, as seven words give them
+abbrev pub counts : List ℕ → FileCounts
 counts w = record {
   nodes = getD w 0 0;
   edges = getD w 1 0;
   choices = getD w 2 0;
   texts = getD w 3 0;
-  bytes = getD w 4 0;
-  annotations = getD w 5 0;
-  root = record { 0 = getD w 6 0 };
-  space = record { 0 = getD w 7 0 };
+  annotations = getD w 4 0;
+  root = record { 0 = getD w 5 0 };
+  space = record { 0 = getD w 6 0 };
 }
 
 pub record Wrote (t : Tables) (lent : Type 0) (out₀ out : List ℕ) (size number : ℕ) : Type 0 where

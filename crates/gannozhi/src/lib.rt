@@ -5,11 +5,11 @@ ghost use Rattle.prepare.specs.File.{TablesLent};
 ghost use Rattle.prepare.specs.Writing.{lentTables, LentAt};
 ghost use Rattle.render.specs.Call.{lengths};
 ghost use Rattle.gannozhi.specs.Words.{words, options, bounds, Answered, read-number, read-words, Read, counts, write-number, write-size, Wrote};
-use file_form::fill::Counts;
 use file_tables::NodeId;
 use file_tables::TextId;
 use prepare::read::Answer;
 use prepare::read::read;
+use prepare::write::FileCounts;
 use prepare::write::Outcome;
 use prepare::write::write;
 use render::call::render_core;
@@ -190,10 +190,10 @@ fn read_words(a: Answer, was: [u32; 8]) -> [u32; 8]
             n.edges,
             n.choices,
             n.texts,
-            n.bytes,
             n.annotations,
             n.root.0,
             n.space.0,
+            n.bytes,
         ],
         Answer::Refused(_) => was,
     }
@@ -217,18 +217,17 @@ pub extern "C" fn gannozhi_read(
     read_number(a)
 }
 
-fn counts_of(w: [u32; 8]) -> Counts
+fn counts_of(w: [u32; 7]) -> FileCounts
     ensures { λ r. ⌜ r ≡ counts w ⌝ }
 {
-    Counts {
+    FileCounts {
         nodes: w[0],
         edges: w[1],
         choices: w[2],
         texts: w[3],
-        bytes: w[4],
-        annotations: w[5],
-        root: NodeId(w[6]),
-        space: TextId(w[7]),
+        annotations: w[4],
+        root: NodeId(w[5]),
+        space: TextId(w[6]),
     }
 }
 
@@ -253,7 +252,7 @@ fn write_size(o: Outcome) -> usize
 // The file of lent tables.
 #[no_mangle]
 pub extern "C" fn gannozhi_write(
-    table_counts: &[u32; 8],
+    file_counts: &[u32; 7],
     nodes: &[[u32; 8]],
     edges: &[u32],
     choices: &[u32],
@@ -262,9 +261,9 @@ pub extern "C" fn gannozhi_write(
     out: &mut [u8],
     size: &mut usize,
 ) -> u32
-    ensures { λ r. ⌜ Wrote (lentTables (counts (now («table_counts» .entry))) (now (nodes .entry)) (now (edges .entry)) (now (choices .entry)) (now (texts .entry)) (now (bytes .entry))) (LentAt (counts (now («table_counts» .entry))) (now (nodes .entry)) (now (edges .entry)) (now (choices .entry)) (now (texts .entry)) (now (bytes .entry))) (now (out .entry)) (now (out .exit)) (now (size .exit)) r ⌝ }
+    ensures { λ r. ⌜ Wrote (lentTables (counts (now («file_counts» .entry))) (now (nodes .entry)) (now (edges .entry)) (now (choices .entry)) (now (texts .entry)) (now (bytes .entry))) (LentAt (counts (now («file_counts» .entry))) (now (nodes .entry)) (now (edges .entry)) (now (choices .entry)) (now (texts .entry)) (now (bytes .entry))) (now (out .entry)) (now (out .exit)) (now (size .exit)) r ⌝ }
 {
-    let n = counts_of(*table_counts);
+    let n = counts_of(*file_counts);
     let o = write(n, nodes, edges, choices, texts, bytes, out);
     *size = write_size(o);
     write_number(o)

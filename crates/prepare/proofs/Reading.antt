@@ -15,6 +15,7 @@ use Rattle.file_encode.specs.Trips.{Encoded, encoded, Right, tables-right, text
 use Rattle.file_checks.specs.Judged.{Formed, Judged}
 use Rattle.prepare.specs.declared.read.Answer.the-variants.{Accepted, Refused}
 use Rattle.prepare.specs.File.{ill, wrong, right, Reads, refused, accepted}
+pub use Rattle.prepare.specs.Laws.{held-is}
 
 -- the counts of an accepted file, each within its limit
 pub record Bounds (n : Counts) : Type 0 where
@@ -38,10 +39,6 @@ bounds-of s e =
       texts = omega (arith, r .within .texts-high, c .texts);
       bytes = omega (arith, texts-total 0 (tablesOf s .texts) (omega arith) (r .texts), c .bytes, e .sized .bytes);
     }
-
-pub held-is : (s : List ℕ) (ns : List (List ℕ)) (es xs : List ℕ) (ts : List (List ℕ)) (bs : List ℕ) → Holds (tablesOf s) (countsOf s) ns es xs ts bs → tables-held (countsOf s) ns es xs ts bs ≡ tablesOf s
-unfolding tablesOf countsOf
-held-is s ns es xs ts bs h = rw (h .node-rows, h .edge-list, h .choice-list, h .text-rows, h .byte-list)
 
 module _ (s : List ℕ) (f : Filled) (ns : List (List ℕ)) (es xs : List ℕ) (ts : List (List ℕ)) (bs : List ℕ) (g : Filling s f ns es xs ts bs) where
   same : tables-held (f .counts) ns es xs ts bs ≡ tablesOf s

@@ -3,22 +3,35 @@ use Prim.Native.Nat.{ℕ, _≤_, _<_}
 use mathlib.Core.Path.{_≡_}
 use mathlib.Core.List.{List, _++_}
 use lib.ListN.{length, take, drop}
-use Rattle.file_tables.specs.Tables.{Tables}
+use Rattle.file_tables.specs.Tables.{Tables, tables}
 use Rattle.file_form.specs.declared.fill.Counts.{Counts}
-use Rattle.file_form.specs.Form.{first-tables}
 use Rattle.file_encode.specs.Encode.{encode, lengths, Sized}
 use Rattle.file_encode.specs.Faults.{tablesFault}
 use Rattle.file_checks.specs.Judged.{Judged}
+use Rattle.prepare.specs.declared.write.FileCounts.{FileCounts}
 use Rattle.prepare.specs.declared.write.Outcome.{Outcome}
 use Rattle.prepare.specs.declared.write.Outcome.the-variants.{Written, Refused}
 
--- the tables that lent memory holds up to their counts; the count of the bytes is the sum of the lengths
-abbrev pub lentTables : Counts → List (List ℕ) → List ℕ → List ℕ → List (List ℕ) → List ℕ → Tables
+-- the counts that a file has are those that were read, but for the number of its text bytes, which is the sum of the lengths
+abbrev pub fileCounts : Counts → FileCounts
+fileCounts n = record {
+  nodes = n .nodes;
+  edges = n .edges;
+  choices = n .choices;
+  texts = n .texts;
+  annotations = n .annotations;
+  root = n .root;
+  space = n .space;
+}
+
+-- the tables that lent memory holds up to their counts, and as many bytes as the texts have together
+abbrev pub lentTables : FileCounts → List (List ℕ) → List ℕ → List ℕ → List (List ℕ) → List ℕ → Tables
 lentTables n nodes edges choices texts bytes =
-    first-tables n (lengths (take (n .texts) texts)) nodes edges choices texts bytes
+    tables (take (n .nodes) nodes) (take (n .edges) edges) (take (n .choices) choices) (take (n .texts) texts) (take (lengths (take (n .texts) texts)) bytes)
+    (n .annotations) (n .root .0) (n .space .0)
 
 -- each table is lent at its count
-pub record LentAt (n : Counts) (nodes : List (List ℕ)) (edges choices : List ℕ) (texts : List (List ℕ)) (bytes : List ℕ) : Type 0 where
+pub record LentAt (n : FileCounts) (nodes : List (List ℕ)) (edges choices : List ℕ) (texts : List (List ℕ)) (bytes : List ℕ) : Type 0 where
   pub nodes-lent : n .nodes ≤ length nodes
   pub edges-lent : n .edges ≤ length edges
   pub choices-lent : n .choices ≤ length choices
@@ -26,7 +39,7 @@ pub record LentAt (n : Counts) (nodes : List (List ℕ)) (edges choices : List �
   pub bytes-lent : lengths (take (n .texts) texts) ≤ length bytes
 
 -- tables that are cut at their counts
-pub record Cut (n : Counts) (nodes : List (List ℕ)) (edges choices : List ℕ) (texts : List (List ℕ)) : Type 0 where
+pub record Cut (n : FileCounts) (nodes : List (List ℕ)) (edges choices : List ℕ) (texts : List (List ℕ)) : Type 0 where
   pub nodes-cut : length nodes ≡ n .nodes
   pub edges-cut : length edges ≡ n .edges
   pub choices-cut : length choices ≡ n .choices

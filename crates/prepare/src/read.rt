@@ -8,6 +8,8 @@ ghost use Rattle.prepare.specs.File.{TablesLent, Reads};
 use file_checks::judge;
 use file_form::fill::Counts;
 use file_form::fill::fill;
+use file_tables::NodeId;
+use file_tables::TextId;
 
 pub enum Answer {
     Accepted(Counts),
@@ -16,16 +18,18 @@ pub enum Answer {
 
 // The first refusal of 6 to 10, or 0, with working memory of its own.
 pub fn judged(
-    n: Counts,
     nodes: &[[u32; 8]],
     edges: &[u32],
     choices: &[u32],
     texts: &[[u32; 3]],
     bytes: &[u8],
+    annotations: u32,
+    root: NodeId,
+    space: TextId,
 ) -> u32
-    requires { ⌜ Formed (tables (now nodes) (now edges) (now choices) (now texts) (now bytes) (n .annotations) (n .root .0) (n .space .0)) ⌝ }
+    requires { ⌜ Formed (tables (now nodes) (now edges) (now choices) (now texts) (now bytes) annotations (root .0) (space .0)) ⌝ }
     requires { ⌜ length (now choices) ≤ 16384 ⌝ }
-    ensures { λ r. ⌜ Judged (tables (now (nodes .entry)) (now (edges .entry)) (now (choices .entry)) (now (texts .entry)) (now (bytes .entry)) (n .annotations) (n .root .0) (n .space .0)) r ⌝ }
+    ensures { λ r. ⌜ Judged (tables (now (nodes .entry)) (now (edges .entry)) (now (choices .entry)) (now (texts .entry)) (now (bytes .entry)) annotations (root .0) (space .0)) r ⌝ }
 {
     let mut colours = [0u8; 4096];
     let mut stack = [0u32; 16384];
@@ -35,9 +39,9 @@ pub fn judged(
         choices,
         texts,
         bytes,
-        n.annotations,
-        n.root,
-        n.space,
+        annotations,
+        root,
+        space,
         &mut colours,
         &mut stack,
     )
@@ -66,12 +70,14 @@ pub fn read_lent(
     let d = n.texts as usize;
     let e = n.bytes as usize;
     let w = judged(
-        n,
         &nodes[..a],
         &edges[..b],
         &choices[..c],
         &texts[..d],
         &bytes[..e],
+        n.annotations,
+        n.root,
+        n.space,
     );
     if w != 0 {
         return Answer::Refused(w);

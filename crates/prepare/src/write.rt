@@ -7,7 +7,7 @@ ghost use Rattle.file_encode.specs.Encode.{lengths, Wide, Sized};
 ghost use Rattle.file_encode.specs.Faults.{tablesFault};
 ghost use Rattle.file_tables.specs.Tables.{tables};
 ghost use Rattle.file_checks.specs.Judged.{Judged};
-ghost use Rattle.prepare.specs.Writing.{lentTables, LentAt, Cut, Writes};
+ghost use Rattle.prepare.specs.Writing.{fileCounts, lentTables, LentAt, Cut, Writes};
 use crate::read::judged;
 use file_encode::faults::header_fault;
 use file_encode::faults::nodes_fault;
@@ -16,6 +16,36 @@ use file_encode::faults::texts_fault;
 use file_form::fill::Counts;
 use file_put::put_tables;
 use file_put::text_total;
+use file_tables::NodeId;
+use file_tables::TextId;
+
+// The counts that a file has, and its root and space text. How many bytes the texts have together is not among them: the lengths say it.
+pub struct FileCounts {
+    pub nodes: u32,
+    pub edges: u32,
+    pub choices: u32,
+    pub texts: u32,
+    pub annotations: u32,
+    pub root: NodeId,
+    pub space: TextId,
+}
+
+// Those of a file that was read.
+pub fn file_counts(n: Counts) -> FileCounts
+    ensures { λ r. ⌜ r ≡ fileCounts n ⌝ }
+{
+    let root = n.root;
+    let space = n.space;
+    FileCounts {
+        nodes: n.nodes,
+        edges: n.edges,
+        choices: n.choices,
+        texts: n.texts,
+        annotations: n.annotations,
+        root: root,
+        space: space,
+    }
+}
 
 pub enum Outcome {
     // How many bytes were written.
@@ -25,7 +55,7 @@ pub enum Outcome {
 }
 
 // The first refusal of 3 and 4, or 0.
-fn tables_fault(n: Counts, nodes: &[[u32; 8]], texts: &[[u32; 3]]) -> u32
+fn tables_fault(n: FileCounts, nodes: &[[u32; 8]], texts: &[[u32; 3]]) -> u32
     requires { ⌜ (length (now nodes) ≡ n .nodes) × (length (now texts) ≡ n .texts) ⌝ }
     ensures { λ r. ⌜ ((edges choices bytes : List ℕ) (root space : ℕ) → length edges ≡ n .edges → length choices ≡ n .choices → r ≡ tablesFault (tables (now (nodes .entry)) edges choices (now (texts .entry)) bytes (n .annotations) root space)) ⌝ }
     ensures { λ r. ⌜ (r ≡ 0 → Wide 8 (now (nodes .entry)) (length (now (nodes .entry))) × Wide 3 (now (texts .entry)) (length (now (texts .entry)))) ⌝ }
@@ -37,7 +67,7 @@ fn tables_fault(n: Counts, nodes: &[[u32; 8]], texts: &[[u32; 3]]) -> u32
 
 // Tables that are refused by nothing but 20. The file is measured by putting it where there is no room for it.
 fn write_right(
-    n: Counts,
+    n: FileCounts,
     nodes: &[[u32; 8]],
     edges: &[u32],
     choices: &[u32],
@@ -83,7 +113,7 @@ fn write_right(
 
 // Tables that are lent at their counts.
 fn write_tables(
-    n: Counts,
+    n: FileCounts,
     nodes: &[[u32; 8]],
     edges: &[u32],
     choices: &[u32],
@@ -99,7 +129,16 @@ fn write_tables(
     if f != 0 {
         return Outcome::Refused(f, 0);
     }
-    let w = judged(n, nodes, edges, choices, texts, bytes);
+    let w = judged(
+        nodes,
+        edges,
+        choices,
+        texts,
+        bytes,
+        n.annotations,
+        n.root,
+        n.space,
+    );
     if w != 0 {
         return Outcome::Refused(w, 0);
     }
@@ -108,7 +147,7 @@ fn write_tables(
 
 // The bytes are cut at the sum of the lengths.
 fn write_cut(
-    n: Counts,
+    n: FileCounts,
     nodes: &[[u32; 8]],
     edges: &[u32],
     choices: &[u32],
@@ -126,9 +165,9 @@ fn write_cut(
     write_tables(n, nodes, edges, choices, texts, &bytes[..total], out)
 }
 
-// Tables of any content. Of the counts, that of the bytes is not read: it is the sum of the lengths.
+// Tables of any content.
 pub fn write(
-    n: Counts,
+    n: FileCounts,
     nodes: &[[u32; 8]],
     edges: &[u32],
     choices: &[u32],

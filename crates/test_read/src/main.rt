@@ -32,7 +32,8 @@ fn same(
     bytes: &[u8],
 ) -> bool {
     let mut out = [0u8; 70000];
-    let outcome = prepare::write::write(n, nodes, edges, choices, texts, bytes, &mut out);
+    let m = prepare::write::file_counts(n);
+    let outcome = prepare::write::write(m, nodes, edges, choices, texts, bytes, &mut out);
     match outcome {
         Outcome::Written(k) => equal(file, &out, k),
         Outcome::Refused(_, _) => false,

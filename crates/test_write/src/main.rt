@@ -1,7 +1,7 @@
 // Tables that the writer refuses or takes: for each the refusal's number and the needed length, or 0 and the length of the file.
-use file_form::fill::Counts;
 use file_tables::NodeId;
 use file_tables::TextId;
+use prepare::write::FileCounts;
 use prepare::write::Outcome;
 use prepare::write::write;
 
@@ -21,15 +21,14 @@ fn say(outcome: Outcome) {
     }
 }
 
-fn counts(nodes: u32, choices: u32, texts: u32, root: u32) -> Counts {
+fn counts(nodes: u32, choices: u32, texts: u32, root: u32) -> FileCounts {
     let r = NodeId(root);
     let s = TextId(0);
-    Counts {
+    FileCounts {
         nodes: nodes,
         edges: 0,
         choices: choices,
         texts: texts,
-        bytes: 0,
         annotations: 0,
         root: r,
         space: s,
@@ -37,7 +36,7 @@ fn counts(nodes: u32, choices: u32, texts: u32, root: u32) -> Counts {
 }
 
 // One node, one text of at most one byte, no edges, one choice edge where choices is 1.
-fn one(n: Counts, node: [u32; 8], text: [u32; 3], byte: u8) {
+fn one(n: FileCounts, node: [u32; 8], text: [u32; 3], byte: u8) {
     let nodes = [node; 1];
     let texts = [text; 1];
     let bytes = [byte; 1];

@@ -45,7 +45,7 @@ mod library {
     use std::process::{Command, Stdio};
 
     use common::{Answer, Counts, Limits, Node, Page, Refusal, Settings, Sizes, Span, Tables, Text};
-    use gannozhi::{FileTables, SolverMemory, TableCounts, TableMemory};
+    use gannozhi::{FileCounts, FileTables, SolverMemory, TableMemory};
     use generate::Rng;
     use model::file::WriteRefusal;
 
@@ -456,12 +456,11 @@ mod library {
                 texts.push([text.width, text.bytes.len() as u32, bytes.len() as u32]);
                 bytes.extend_from_slice(&text.bytes);
             }
-            let counts = TableCounts {
+            let counts = FileCounts {
                 nodes: nodes.len() as u32,
                 edges: tables.edges.len() as u32,
                 choices: tables.choice_edges.len() as u32,
                 texts: texts.len() as u32,
-                bytes: bytes.len() as u32,
                 annotations: tables.annotations,
                 root: tables.root,
                 space: tables.space,
