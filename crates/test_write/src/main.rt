@@ -57,6 +57,7 @@ fn forms() {
 
 fn more_forms() {
     let space = [1u32, 1, 0];
+    one(counts(1, 0, 1, 0), [256, 0, 0, 0, 0, 0, 0, 0], space, 32);
     one(counts(1, 0, 1, 0), [0, 0, 0, 0, 1, 0, 0, 0], space, 32);
     one(counts(1, 0, 1, 0), [9, 0, 0, 0, 0, 1, 0, 0], space, 32);
     one(counts(1, 0, 1, 0), [9, 0, 0, 0, 0, 0, 0, 1], space, 32);
