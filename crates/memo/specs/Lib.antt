@@ -2,3 +2,4 @@ pub mod Hash
 pub mod Sizes
 pub mod Entries
 pub mod Index
+pub mod Cases
