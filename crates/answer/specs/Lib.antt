@@ -6,4 +6,6 @@ pub mod Ready
 pub mod Faults
 pub mod Exactly
 pub mod Demand
+pub mod Worked
+pub mod Starred
 pub mod Cases

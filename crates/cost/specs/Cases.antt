@@ -1,19 +1,12 @@
--- Worked cases of document 01 that are costs, by computation.
+-- Worked costs, by computation.
 use mathlib.Core.Path.{_≡_, refl}
 use mathlib.Core.Bool.{true, false}
 use Prim.Native.Nat.{ℕ}
-use Rattle.cost.specs.Cost.{Cost, zero-cost, add, cheap, cheaper}
+use Rattle.cost.specs.Cost.{Cost, cheap, cheaper}
 use Rattle.cost.specs.Charge.{squared, text-cost, newline-cost, penalty-cost}
 
 abbrev pub cost : ℕ → ℕ → Cost
 cost o b = record { overflow = o; burden = b }
-
--- `ab` at page width 2, and at 1
-ab-2 : text-cost (squared 2) 0 2 ≡ zero-cost
-ab-2 = refl
-
-ab-1 : text-cost (squared 1) 0 2 ≡ cost 1 0
-ab-1 = refl
 
 -- `abc` at page width 1: squares, not the plain excess
 abc-1 : text-cost (squared 1) 0 3 ≡ cost 4 0
@@ -22,10 +15,6 @@ abc-1 = refl
 -- text that starts past the width is charged what it adds to its line
 after-ab-1 : text-cost (squared 1) 2 1 ≡ cost 3 0
 after-ab-1 = refl
-
--- `ab`, a newline of cost 1, `cd` at page width 4
-broken-4 : add (add (text-cost (squared 4) 0 2) (newline-cost (squared 4) 1 0)) (text-cost (squared 4) 0 2) ≡ cost 0 1
-broken-4 = refl
 
 -- a newline to indent 3 at page width 1
 indent-3 : newline-cost (squared 1) 7 3 ≡ cost 4 7

@@ -1,4 +1,5 @@
--- Worked cases, computed: those of document 01 with their counts, and each refusal 11 to 22 with its counts. Pages, counts and needed sizes are the Rust's wherever it can show them.
+-- Worked cases, computed: pages that tell readings apart, and each refusal 11 to 22, with their counts. Pages, counts and needed sizes are the Rust's wherever it can show them.
+-- Document 01's starred cases are in crate answer, Starred.
 use mathlib.Core.Path.{_≡_, refl}
 use mathlib.Core.Bool.{cond}
 use mathlib.Core.Option.{Option, none, some}
@@ -104,27 +105,9 @@ tried w n p d b = said (answer (squares w n p) d b)
 
 -- ---- the cases
 
-abbrev empty-doc : Prepared
-empty-doc = prepared 0 (Empty ∷ [])
-    (word 1 (32 ∷ []) ∷ []) ([]) ([])
-
--- ★ one Empty
-one-empty : tried 80 1 0 empty-doc ample ≡ page ([]) 0 0 (counted 2 0 1 1 0 1 1 1 1) ([])
-unfolding tried
-one-empty = refl
-
 abbrev ab-doc : Prepared
 ab-doc = prepared 0 (Text 1 ∷ [])
     (word 1 (32 ∷ []) ∷ word 2 (97 ∷ 98 ∷ []) ∷ []) ([]) ([])
-
--- ★ `ab` at W 2 and W 1
-ab-2 : tried 2 1 0 ab-doc ample ≡ page (97 ∷ 98 ∷ []) 0 0 (counted 2 0 1 1 0 1 1 1 1) ([])
-unfolding tried
-ab-2 = refl
-
-ab-1 : tried 1 1 0 ab-doc ample ≡ page (97 ∷ 98 ∷ []) 1 0 (counted 2 0 1 1 0 1 1 1 1) ([])
-unfolding tried
-ab-1 = refl
 
 abbrev abc-1-doc : Prepared
 abc-1-doc = prepared 0 (Text 1 ∷ [])
@@ -140,50 +123,15 @@ abbrev group-doc : Prepared
 group-doc = prepared 6 (Text 1 ∷ Text 2 ∷ Break ∷ Seq (0 ∷ 2 ∷ 1 ∷ []) ∷ Text 0 ∷ Seq (0 ∷ 4 ∷ 1 ∷ []) ∷ Group 3 ∷ [])
     (word 1 (32 ∷ []) ∷ word 2 (97 ∷ 98 ∷ []) ∷ word 2 (99 ∷ 100 ∷ []) ∷ []) ((3 ∷ 5 ∷ []) ∷ []) ([])
 
--- ★ W 5 flat
-group-5 : tried 5 1 0 group-doc ample ≡ page (97 ∷ 98 ∷ 32 ∷ 99 ∷ 100 ∷ []) 0 0 (counted 20 1 8 11 0 2 8 9 5) ([])
-unfolding tried
-group-5 = refl
-
--- ★ W 4 broken
-group-4 : tried 4 1 0 group-doc ample ≡ page (97 ∷ 98 ∷ 10 ∷ 99 ∷ 100 ∷ []) 0 1 (counted 20 1 8 11 1 1 8 9 5) ([])
-unfolding tried
-group-4 = refl
-
--- ★ newline cost 0, W 5: flat
-group-5-free : tried 5 0 0 group-doc ample ≡ page (97 ∷ 98 ∷ 32 ∷ 99 ∷ 100 ∷ []) 0 0 (counted 20 1 8 11 0 2 8 9 5) ([])
-unfolding tried
-group-5-free = refl
-
 -- Fill of `a`, `b`
 abbrev fill-doc : Prepared
 fill-doc = prepared 2 (Text 1 ∷ Text 2 ∷ Fill (0 ∷ 1 ∷ []) ∷ [])
     (word 1 (32 ∷ []) ∷ word 1 (97 ∷ []) ∷ word 1 (98 ∷ []) ∷ []) ([]) ([])
 
--- ★ W 3 one line
-fill-3 : tried 3 1 0 fill-doc ample ≡ page (97 ∷ 32 ∷ 98 ∷ []) 0 0 (counted 13 0 4 9 0 2 4 9 5) ([])
-unfolding tried
-fill-3 = refl
-
--- ★ W 2 two lines
-fill-2 : tried 2 1 0 fill-doc ample ≡ page (97 ∷ 10 ∷ 98 ∷ []) 0 1 (counted 13 0 4 9 1 2 4 8 5) ([])
-unfolding tried
-fill-2 = refl
-
 -- HardLine in Nest 3
 abbrev hardline-doc : Prepared
 hardline-doc = prepared 1 (HardLine ∷ Nest 3 0 ∷ [])
     (word 1 (32 ∷ []) ∷ []) ([]) ([])
-
--- ★ 3 spaces
-hardline-3 : tried 3 1 0 hardline-doc ample ≡ page (10 ∷ 32 ∷ 32 ∷ 32 ∷ []) 0 1 (counted 3 0 2 1 0 1 2 1 1) ([])
-unfolding tried
-hardline-3 = refl
-
--- ★ policy 1: 2
-hardline-3-lowered : tried 3 1 1 hardline-doc ample ≡ page (10 ∷ 32 ∷ 32 ∷ []) 0 1 (counted 3 0 2 1 0 1 2 1 1) ([])
-unfolding tried
-hardline-3-lowered = refl
 
 abbrev list-doc : Prepared
 list-doc = prepared 4 (Text 1 ∷ HardLine ∷ Empty ∷ Choice 1 2 ∷ Choice 0 3 ∷ [])
@@ -216,18 +164,15 @@ spans-first : tried 2 1 0 every-doc (bounds 64 64 64 16 64 32 1 64 1 1000 1000) 
 unfolding tried
 spans-first = refl
 
-abbrev nests-doc : Prepared
-nests-doc = prepared 2 (Nest 4294967295 1 ∷ Empty ∷ Nest 1 0 ∷ [])
-    (word 1 (32 ∷ []) ∷ []) ([]) ([])
+-- `ab`, then an Align over Nest 2^32 − 2 over Empty
+abbrev aligned-doc : Prepared
+aligned-doc = prepared 4 (Text 1 ∷ Empty ∷ Nest 4294967294 1 ∷ Align 2 ∷ Seq (0 ∷ 3 ∷ []) ∷ [])
+    (word 1 (32 ∷ []) ∷ word 2 (97 ∷ 98 ∷ []) ∷ []) ([]) ([])
 
--- ★ 11 under either policy
-two-nests : tried 80 1 0 nests-doc ample ≡ refusal 11 0 (counted 2 0 2 0 0 0 0 0 0)
+-- the sum is tested before it is lowered
+aligned-nest : tried 80 1 1 aligned-doc ample ≡ refusal 11 0 (counted 5 0 4 1 0 1 1 0 0)
 unfolding tried
-two-nests = refl
-
-two-nests-lowered : tried 80 1 1 nests-doc ample ≡ refusal 11 0 (counted 2 0 2 0 0 0 0 0 0)
-unfolding tried
-two-nests-lowered = refl
+aligned-nest = refl
 
 abbrev wide-doc : Prepared
 wide-doc = prepared 2 (Text 1 ∷ Text 2 ∷ Seq (0 ∷ 1 ∷ []) ∷ [])

@@ -9,7 +9,7 @@ use lib.Dec.{leb, ltb, eqb}
 use borrow.Author.Tests.{eqb-true, ltb-true, leb-true}
 use Rattle.memo.specs.declared.MemoKey.{MemoKey}
 use Rattle.memo.specs.Hash.{folded, mixed, mixOf, hashOf}
-use Rattle.memo.specs.Sizes.{Least, SlotsFor}
+use Rattle.memo.specs.Sizes.{SlotsFor}
 
 -- ---- the hash
 

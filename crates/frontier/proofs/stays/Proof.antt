@@ -1,7 +1,4 @@
 -- `frontier::stays` meets its contract.
-use mathlib.Core.Path.{_∙_, ap}
-use Rattle.cost.specs.Cost.{cheap}
-use Rattle.cost.specs.Value.{value}
 use borrow.Author.Needs.{needs}
 use Rattle.frontier.proofs.stays.Statement.{statement}
 use Rattle.frontier.proofs.stays.Tie as tie
@@ -13,7 +10,7 @@ at-most-requires : tie.Need-at-most-requires
 at-most-requires c κs = search needs
 
 returns : tie.Need-returns
-returns c = c .at-most .ensures ∙ ap (λ z. cheap z (value (c .before .before .before .args .cost))) (c .before .cost-of .ensures)
+returns c = rw (c .at-most .ensures, c .before .cost-of .ensures)
 
 pub stays-spec : {M : Type 1} → statement M
 stays-spec = tie.close (tie.spec cost-of-requires at-most-requires returns)
