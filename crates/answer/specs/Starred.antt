@@ -123,9 +123,10 @@ abbrev pub Holds : Row → Type 0
 Holds (call file c a) = Answers (Unit {0}) file c (page-bounds 1000000) a
 Holds (presents cs left k) = run (page-bounds 1000000) no-counts (present-all cs blank-state) ≡ done k (with-builder left (length cs) blank-state)
 
-abbrev pub Every : List Row → Type 0
-Every [] = Unit {0}
-Every (r ∷ rs) = Holds r × Every rs
+infixr 20 _also_
+pub data Every : List Row → Type 0 where
+  none : Every []
+  _also_ : {r : Row} {rs : List Row} → Holds r → Every rs → Every (r ∷ rs)
 
 -- ---- the tables of the files, and the proof
 
@@ -158,43 +159,18 @@ line-tables = tables (node 3 0 0 ∷ node 7 3 0 ∷ []) [] [] (space ∷ []) (32
 
 pub all-starred : Every starred
 unfolding bytes-of sound tried cheap cheaper covers presented present present-all
-all-starred = (
-  worked empty-tables refl refl refl refl refl,
-  (
-    worked ab-tables refl refl refl refl refl,
-    (
-      worked ab-tables refl refl refl refl refl,
-      (
-        worked group-tables refl refl refl refl refl,
-        (
-          worked group-tables refl refl refl refl refl,
-          (
-            worked group-tables refl refl refl refl refl,
-            (
-              refl,
-              (
-                worked fill-tables refl refl refl refl refl,
-                (
-                  worked fill-tables refl refl refl refl refl,
-                  (
-                    worked nests-tables refl refl refl refl refl,
-                    (
-                      worked nests-tables refl refl refl refl refl,
-                      (
-                        worked line-tables refl refl refl refl refl,
-                        (
-                          worked line-tables refl refl refl refl refl,
-                          tt,
-                        ),
-                      ),
-                    ),
-                  ),
-                ),
-              ),
-            ),
-          ),
-        ),
-      ),
-    ),
-  ),
-)
+all-starred =
+    worked empty-tables refl refl refl refl refl
+    also worked ab-tables refl refl refl refl refl
+    also worked ab-tables refl refl refl refl refl
+    also worked group-tables refl refl refl refl refl
+    also worked group-tables refl refl refl refl refl
+    also worked group-tables refl refl refl refl refl
+    also refl
+    also worked fill-tables refl refl refl refl refl
+    also worked fill-tables refl refl refl refl refl
+    also worked nests-tables refl refl refl refl refl
+    also worked nests-tables refl refl refl refl refl
+    also worked line-tables refl refl refl refl refl
+    also worked line-tables refl refl refl refl refl
+    also none

@@ -1,4 +1,4 @@
--- Worked cases, by computation: what the Rust's own `memo_hash` and `memo_slots_for` give, so that a constant mistyped in the definitions is found.
+-- Worked cases, by computation: what the Rust's own `memo_hash` and `memo_slots_for` give (differential/, `oracle hash`, `oracle slots`), so that a constant mistyped in the definitions is found.
 use mathlib.Core.Path.{_≡_, refl, subst}
 use mathlib.Core.Bool.{Bool, true, false, _&&_}
 use mathlib.Core.List.{List, [], _∷_}
