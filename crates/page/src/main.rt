@@ -5,5 +5,8 @@ fn main() {
     let n = io::read_full(0, &mut input);
     let mut text = [0u8; 32870];
     let k = page_text::print_page(&input[..n], &mut text);
-    io::write_all(1, &text[..k]);
+    let written = io::write_all(1, &text[..k]);
+    if !written {
+        io::write_all(2, b"page: output cut short\n");
+    }
 }

@@ -26,8 +26,8 @@ use Rattle.render.specs.declared.order.Lengths.{Lengths}
 use Rattle.render.specs.Order.{TablesLent, SolverLent, PageLent, InOrder}
 use Rattle.render.specs.Rendered.{span-of, meant, page-length}
 use Rattle.render.specs.Call.{settings, Rendering}
-use Rattle.page_text.specs.Printed.{page-bounds, settings-in, file-in, text-of, Printed, too-long, wrong-setting, answered, Prints}
-use Rattle.page_text.specs.Right.{setting-inside}
+use Rattle.page_text.specs.Printed.{page-bounds, settings-in, setting-fault, file-in, text-of, Printed, too-long, wrong-setting, answered, Right, Prints}
+use Rattle.page_text.specs.Right.{setting-inside, right-answer, right-fault, right-long}
 use Rattle.page_text.specs.Shown.{Sized, RenderedSized, Fitting, Told, Shown}
 
 -- ---- an answer's text
@@ -112,6 +112,7 @@ pub shown :
 shown {file} {o} {b} {l} {output₀} {output} {rows₀} {rows} {r} g e z h t = record {
   answer = meant r output rows;
   answers = subst (λ (d : Bounds). Answers (Unit {0}) file (settings o) d (meant r output rows)) e (lent-all {o = o} {l = l} (lent l b e z) (g .answers));
+  promised = g .promised;
   text = t .text-is rows (omega (arith, g .stands .rows-are .within));
 }
 
@@ -121,15 +122,21 @@ pub at-inside : (input : List ℕ) (st : Setting) → st ≡ settingAt input →
 at-inside input st e = subst (λ (s : Setting). s .next .at ≤ length input) (sym e) (setting-inside input)
 
 module _ {input out : List ℕ} {k : ℕ} where
-  printing : {t : List ℕ} → Printed input t → Front t out k → Prints input out k
-  printing p f = record { within = f .within; printed = subst (λ (t : List ℕ). Printed input t) (sym (f .is)) p }
+  printing : {t : List ℕ} → Printed input t → Right input t → Front t out k → Prints input out k
+  printing p q f = record {
+    within = f .within;
+    printed = subst (λ (t : List ℕ). Printed input t) (sym (f .is)) p;
+    right = subst (λ (t : List ℕ). Right input t) (sym (f .is)) q;
+  }
 
   pub prints-too-long : 32768 < length input → Front (refused-line 4) out k → Prints input out k
-  prints-too-long l f = printing (too-long l) f
+  prints-too-long l f = printing (too-long l) (right-long input) f
 
   module _ (st : Setting) (e : st ≡ settingAt input) (h : length input ≤ 32768) where
     pub prints-fault : (st .next .fault ≡ 0 → ⊥) → Front (refused-line (st .next .fault)) out k → Prints input out k
-    prints-fault n f = printing (wrong-setting h (λ z. n (ap (λ (s : Setting). s .next .fault) e ∙ z))) (subst (λ (s : Setting). Front (refused-line (s .next .fault)) out k) e f)
+    prints-fault n f =
+        let m : setting-fault input ≡ 0 → ⊥ = λ z. n (ap (λ (s : Setting). s .next .fault) e ∙ z) in
+        printing (wrong-setting h m) (right-fault input m) (subst (λ (s : Setting). Front (refused-line (s .next .fault)) out k) e f)
 
     pub prints-answer :
         st .next .fault ≡ 0
@@ -138,7 +145,7 @@ module _ {input out : List ℕ} {k : ℕ} where
     prints-answer n f = go (subst (λ (s : Setting). Shown (take (length input - s .next .at) (drop (s .next .at) input)) (record { width = s .width; newline-cost = s .«newline_cost»; policy = s .policy }) out k) e f)
       where
         go : Shown (take (length input - settingAt input .next .at) (file-in input)) (settings-in input) out k → Prints input out k
-        go g = printing (answered h (sym (ap (λ (s : Setting). s .next .fault) e) ∙ n) (g .answer) (rw whole at (g .answers))) (g .text)
+        go g = printing (answered h (sym (ap (λ (s : Setting). s .next .fault) e) ∙ n) (g .answer) (rw whole at (g .answers))) (right-answer (rw whole at (g .promised))) (g .text)
           where
             whole : take (length input - settingAt input .next .at) (file-in input) ≡ file-in input
             whole = take-all (length input - settingAt input .next .at) (file-in input) (omega (arith, length-drop (settingAt input .next .at) input))

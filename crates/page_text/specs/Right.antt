@@ -1,4 +1,4 @@
--- There is exactly one text for each input; a page in it is the rule's page, and any other text is a refusal by one of document 01's numbers.
+-- There is exactly one text for each input, and it is right: a page in it is the rule's page, and any other text is a refusal by one of document 01's numbers.
 use mathlib.Core.Path.{_≡_, refl, ap}
 use mathlib.Core.Bool.{Bool, true, false}
 use mathlib.Core.Logic.{by-cases}
@@ -15,13 +15,11 @@ use Rattle.file_fields.specs.Fields.{pick, got, byteAt, wordAt, nonzero, fieldA
 use Rattle.page_setting.specs.Setting.{settingAt, sMap, sWidth, sNewlineCost}
 use Rattle.page_lines.specs.Lines.{refused-line}
 use Rattle.file_encode.specs.Fields.{Bytes}
-use Rattle.machine.specs.Events.{Counts}
-use Rattle.machine.specs.Materializer.{Rendered}
-use Rattle.machine.specs.Answer.{Answer, paged, refused}
-use Rattle.answer.specs.Page.{RulesPage, Promised, right-page, right-refusal}
+use Rattle.machine.specs.Answer.{Answer}
+use Rattle.answer.specs.Page.{Promised, right-page, right-refusal}
 use Rattle.answer.specs.Exactly.{answered as some-answer, answers-one}
 use Rattle.answer.specs.Demand.{promised}
-use Rattle.page_text.specs.Printed.{page-bounds, settings-in, setting-fault, file-in, text-of, Printed, too-long, wrong-setting, answered}
+use Rattle.page_text.specs.Printed.{page-bounds, settings-in, setting-fault, file-in, text-of, Printed, too-long, wrong-setting, answered, Right, page, refusal}
 
 -- ---- the setting ends within the input, and is refused by 2 or 3
 
@@ -93,22 +91,25 @@ some-text input =
 
 -- ---- the rule's page
 
--- the text of the rule's page, or of a refusal
-pub data Right (input : List ℕ) : List ℕ → Type 0 where
-  page : (r : Rendered) (k : Counts) → RulesPage (file-in input) (settings-in input) r → Right input (text-of (paged r k))
-  refusal : (n : ℕ) → 1 ≤ n → n ≤ 22 → Right input (refused-line n)
+-- the text of an answer that is as promised is right
+pub right-answer : {input : List ℕ} {a : Answer} → Promised (file-in input) (settings-in input) a → Right input (text-of a)
+right-answer (right-page {r = r} {k = k} q) = page r k q
+right-answer (right-refusal {n = n} l h) = refusal n l h
 
-pub printed-right : (input : List ℕ) → Bytes input → {s : List ℕ} → Printed input s → Right input s
-printed-right input z (too-long l) = refusal 4 (omega arith) (omega arith)
-printed-right input z (wrong-setting h f) = refusal (setting-fault input) (nonzero-least (setting-fault input) f) (omega (arith, kept-setting input .small))
+pub right-fault : (input : List ℕ) → (setting-fault input ≡ 0 → ⊥) → Right input (refused-line (setting-fault input))
+right-fault input f = refusal (setting-fault input) (least (setting-fault input) f) (omega (arith, kept-setting input .small))
   where
-    nonzero-least : (n : ℕ) → (n ≡ 0 → ⊥) → 1 ≤ n
-    nonzero-least n f = omega (arith, f)
-printed-right input z (answered h f a p) = go a (promised (dropped input z) p)
+    least : (n : ℕ) → (n ≡ 0 → ⊥) → 1 ≤ n
+    least n f = omega (arith, f)
+
+pub right-long : (input : List ℕ) → Right input (refused-line 4)
+right-long input = refusal 4 (omega arith) (omega arith)
+
+-- every such text is right, whoever wrote it
+pub printed-right : (input : List ℕ) → Bytes input → {s : List ℕ} → Printed input s → Right input s
+printed-right input z (too-long l) = right-long input
+printed-right input z (wrong-setting h f) = right-fault input f
+printed-right input z (answered h f a p) = right-answer (promised (dropped input z) p)
   where
     dropped : (s : List ℕ) → Bytes s → Bytes (file-in s)
     dropped s z = record { byte = λ i. rw getD-drop (z .byte (settingAt s .next .at + i)) }
-
-    go : (a : Answer) → Promised (file-in input) (settings-in input) a → Right input (text-of a)
-    go (paged r k) (right-page q) = page r k q
-    go (refused n m k) (right-refusal l h) = refusal n l h

@@ -6,6 +6,7 @@ use lib.ListN.{length}
 use Rattle.page_lines.specs.Put.{Front}
 use Rattle.machine.specs.Answer.{Answer}
 use Rattle.answer.specs.Answer.{Settings, Answers}
+use Rattle.answer.specs.Page.{Promised}
 use Rattle.materialize.specs.Rows.{Row}
 use Rattle.solve_workspace.specs.declared.RenderOptions.{RenderOptions}
 use Rattle.solve_workspace.specs.declared.Bounds.{Bounds}
@@ -50,8 +51,9 @@ pub record Fitting (r : Rendered) (output text : List ℕ) : Type 0 where
 pub record Told (r : Rendered) (output out : List ℕ) (k : ℕ) : Type 0 where
   pub text-is : (rows : List Row) → span-count r ≤ length rows → Front (text-of (meant r output rows)) out k
 
--- the first k bytes are the text of the answer to a call on the file with the program's sizes
+-- the first k bytes are the text of the answer to a call on the file with the program's sizes, and a page in it is the rule's
 pub record Shown (file : List ℕ) (c : Settings) (out : List ℕ) (k : ℕ) : Type 0 where
   pub answer : Answer
   pub answers : Answers (Unit {0}) file c page-bounds answer
+  pub promised : Promised file c answer
   pub text : Front (text-of answer) out k
