@@ -47,6 +47,18 @@ pub struct Call<'a> {
 }
 
 impl Call<'_> {
+    /// Settings and file as the program `page` reads them.
+    pub fn input(&self) -> Vec<u8> {
+        let Settings { width, newline_cost, policy } = self.settings;
+        let mut input = vec![1 | u8::from(newline_cost > 0) << 1 | (policy as u8 & 1) << 2];
+        input.extend(width.to_le_bytes());
+        if newline_cost > 0 {
+            input.extend(newline_cost.to_le_bytes());
+        }
+        input.extend(self.file);
+        input
+    }
+
     pub fn describe(&self) -> String {
         format!(
             "file {}\nsettings {} {} {}\nsizes {:?}\nlimits {} {}\n",
@@ -140,13 +152,7 @@ impl Comparer {
     /// The model's program `page`, held to ours.
     pub fn page(&mut self, call: &Call) {
         let Some(ours) = &mut self.ours else { return };
-        let settings = call.settings;
-        let mut input = vec![1 | u8::from(settings.newline_cost > 0) << 1 | (settings.policy as u8 & 1) << 2];
-        input.extend(settings.width.to_le_bytes());
-        if settings.newline_cost > 0 {
-            input.extend(settings.newline_cost.to_le_bytes());
-        }
-        input.extend(call.file);
+        let input = call.input();
         let modelled = model::page(&input);
         let Some(output) = ours.page(&input) else { return };
         if output != modelled {
@@ -156,6 +162,14 @@ impl Comparer {
                 &output.escape_ascii().to_string(),
                 &modelled.escape_ascii().to_string(),
             );
+        }
+    }
+
+    /// The program says so where its output is cut short.
+    pub fn page_cut_short(&mut self, call: &Call) {
+        let said = self.ours.as_mut().and_then(|ours| ours.page_into_full(&call.input()));
+        if said.as_ref().is_some_and(|said| *said != (b"page: output cut short\n".to_vec(), true)) {
+            self.difference("the program into a full device", call, &format!("{said:?}"), "");
         }
     }
 

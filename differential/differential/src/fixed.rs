@@ -20,19 +20,19 @@ pub enum Want {
 }
 
 /// The tables of a small document; text 0 is the space.
-struct Build(Tables);
+pub struct Build(Tables);
 
 impl Build {
-    fn new() -> Build {
+    pub fn new() -> Build {
         Build(Tables { texts: vec![Text { width: 1, bytes: vec![32] }], ..Tables::default() })
     }
 
-    fn node(&mut self, kind: u8, first: u32, second: u32) -> u32 {
+    pub fn node(&mut self, kind: u8, first: u32, second: u32) -> u32 {
         self.0.nodes.push(Node::of(kind, first, second));
         self.0.nodes.len() as u32 - 1
     }
 
-    fn wide(&mut self, text: &str, width: u32) -> u32 {
+    pub fn wide(&mut self, text: &str, width: u32) -> u32 {
         self.0.texts.push(Text { width, bytes: text.as_bytes().to_vec() });
         let text = self.0.texts.len() as u32 - 1;
         self.node(kind::TEXT, text, 0)
@@ -42,7 +42,7 @@ impl Build {
         self.wide(text, text.len() as u32)
     }
 
-    fn list(&mut self, kind: u8, children: &[u32]) -> u32 {
+    pub fn list(&mut self, kind: u8, children: &[u32]) -> u32 {
         let start = self.0.edges.len() as u32;
         self.0.edges.extend(children);
         self.node(kind, start, children.len() as u32)
@@ -56,7 +56,7 @@ impl Build {
     }
 
     /// The file whose root is the last node.
-    fn file(mut self) -> Vec<u8> {
+    pub fn file(mut self) -> Vec<u8> {
         self.0.root = self.0.nodes.len() as u32 - 1;
         model::file::bytes(&self.0)
     }
@@ -133,7 +133,14 @@ pub fn cases() -> Vec<Case> {
     add("HardLine in Nest 3, W 3, policy 1", line(), settings(3, 1, 1), page, none, Page("\n  ", 0, 1, None));
     add("ab, work limit 1", ab(), usual, page, Limits { work: 1, ..none }, Refused(12, 0, Some(1)));
     add("ab, work limit 2", ab(), usual, page, Limits { work: 2, ..none }, Page("ab", 0, 0, Some(2)));
-    add("ab, limits 2^64 - 1", ab(), usual, page, Limits { work: u64::MAX, visits: u64::MAX }, Page("ab", 0, 0, Some(2)));
+    add(
+        "ab, limits 2^64 - 1",
+        ab(),
+        usual,
+        page,
+        Limits { work: u64::MAX, visits: u64::MAX },
+        Page("ab", 0, 0, Some(2)),
+    );
     add("ab, memo 0", ab(), usual, Sizes { memo: 0, ..page }, none, Refused(14, 1, Some(2)));
 
     // The reader (1 to 12).

@@ -4,6 +4,8 @@
 //! `differential report --rows N --seed S`: prints the file of a report of N rows, made by prepare.rs, in hexadecimal.
 //! `differential bench`: times of ours and of the reference on the same files; `--part P --rows N --width W --times T` does one part of the
 //! work T times and prints nothing, for a count of instructions (see bench.rs).
+//! `differential greatest --seed S --cases N`: calls at the greatest sizes, on reserved address space (`--page`: also one whose page has
+//! 2^32 - 1 bytes and takes that much memory).
 //! `differential sample --seed S` and `differential sample-page --seed S`: print a frozen sample (see sample.rs).
 
 #[cfg(feature = "ours")]
@@ -11,6 +13,8 @@ mod bench;
 mod compare;
 mod exhaustive;
 mod fixed;
+#[cfg(feature = "ours")]
+mod greatest;
 mod ours;
 mod sample;
 mod shrink;
@@ -53,6 +57,11 @@ fn run() -> i32 {
                 None => bench::table(),
             }
             return 0;
+        }
+        #[cfg(feature = "ours")]
+        Some("greatest") => {
+            let whole_page = arguments.iter().any(|word| word == "--page");
+            return greatest::run(seed, value("--cases").unwrap_or(500), whole_page);
         }
         Some("sample-page") => {
             sample::print_page(seed);
@@ -169,6 +178,9 @@ fn fixed_cases(comparer: &mut Comparer) {
         };
         if !met {
             comparer.difference(case.name, &call, &common::describe(&answer), "not as it must be");
+        }
+        if case.sizes == Sizes::PAGE {
+            comparer.page_cut_short(&call);
         }
     }
 }

@@ -19,8 +19,13 @@ pub trait Printer {
         None
     }
 
-    /// The output of the program `page`; None where it is not run.
+    /// What the program `page` writes to standard output; None where it is not run. It panics where standard error gets anything.
     fn page(&mut self, _input: &[u8]) -> Option<Vec<u8>> {
+        None
+    }
+
+    /// What `page` writes to standard error, and whether its status is 0, where standard output takes nothing; None where it is not run.
+    fn page_into_full(&mut self, _input: &[u8]) -> Option<(Vec<u8>, bool)> {
         None
     }
 
@@ -39,10 +44,11 @@ pub fn linked() -> Option<Box<dyn Printer>> {
 }
 
 #[cfg(feature = "ours")]
-mod library {
+pub mod library {
+    use std::fs::File;
     use std::io::Write;
-    use std::path::PathBuf;
-    use std::process::{Command, Stdio};
+    use std::path::{Path, PathBuf};
+    use std::process::{Command, Output, Stdio};
 
     use common::{Answer, Counts, Limits, Node, Page, Refusal, Settings, Sizes, Span, Tables, Text};
     use gannozhi::{FileCounts, FileTables, SolverMemory, TableMemory};
@@ -156,8 +162,8 @@ mod library {
         rng: Rng,
         /// The program `page`, where it is built.
         program: Option<PathBuf>,
-        /// Calls with memory at the size, above it and below it; files read; files written; runs of the program.
-        tried: [u64; 6],
+        /// Calls with memory at the size, above it and below it; files read; files written; runs of the program, and into a full device.
+        tried: [u64; 7],
         nodes: Store<[u32; 8]>,
         edges: Store<u32>,
         choices: Store<u32>,
@@ -178,7 +184,7 @@ mod library {
     }
 
     /// How long each slice must be, in the order of the fields of `Library`.
-    fn lengths(sizes: &Sizes) -> [usize; 17] {
+    pub fn lengths(sizes: &Sizes) -> [usize; 17] {
         let size = sizes.list().map(|size| size as usize);
         let slots = gannozhi::memo_slots_for(sizes.memo);
         [
@@ -208,7 +214,7 @@ mod library {
             Library {
                 rng: Rng::new(1),
                 program: Some(program).filter(|program| program.is_file()),
-                tried: [0; 6],
+                tried: [0; 7],
                 nodes: Store::new(),
                 edges: Store::new(),
                 choices: Store::new(),
@@ -337,7 +343,7 @@ mod library {
         }
     }
 
-    fn counts(ours: &gannozhi::Counts) -> Counts {
+    pub fn counts(ours: &gannozhi::Counts) -> Counts {
         Counts {
             work: ours.work,
             fit_checks: ours.fit_checks,
@@ -352,7 +358,7 @@ mod library {
         }
     }
 
-    fn span(row: [u64; 4]) -> Span {
+    pub fn span(row: [u64; 4]) -> Span {
         let span = gannozhi::span(row);
         Span {
             annotation: span.annotation,
@@ -360,6 +366,15 @@ mod library {
             end: span.end as u64,
             parent: span.parent.map(|parent| parent as u32),
         }
+    }
+
+    fn ran(program: &Path, stdout: Stdio, input: &[u8]) -> Output {
+        let mut command = Command::new(program);
+        let mut child =
+            command.stdin(Stdio::piped()).stdout(stdout).stderr(Stdio::piped()).spawn().expect("`page` runs");
+        // It ends before it has read all where the input is too long.
+        let _ = child.stdin.take().expect("a pipe").write_all(input);
+        child.wait_with_output().expect("`page` ends")
     }
 
     impl super::Printer for Library {
@@ -426,15 +441,25 @@ mod library {
         fn page(&mut self, input: &[u8]) -> Option<Vec<u8>> {
             let program = self.program.as_ref().filter(|_| self.rng.chance(20))?;
             self.tried[5] += 1;
-            let mut child = Command::new(program).stdin(Stdio::piped()).stdout(Stdio::piped()).spawn().ok()?;
-            child.stdin.take()?.write_all(input).ok()?;
-            child.wait_with_output().ok().map(|output| output.stdout)
+            let output = ran(program, Stdio::piped(), input);
+            if !output.stderr.is_empty() {
+                panic!("`page` said on standard error: {}", output.stderr.escape_ascii());
+            }
+            Some(output.stdout)
+        }
+
+        fn page_into_full(&mut self, input: &[u8]) -> Option<(Vec<u8>, bool)> {
+            let program = self.program.as_ref()?;
+            self.tried[6] += 1;
+            let full = File::options().write(true).open("/dev/full").expect("the full device");
+            let output = ran(program, full.into(), input);
+            Some((output.stderr, output.status.success()))
         }
 
         fn tally(&self) -> String {
-            let [at, above, below, read, written, run] = self.tried;
+            let [at, above, below, read, written, run, full] = self.tried;
             format!(
-                "our calls with memory at the size {at}, above it {above}, one below it {below}; files read {read}, written {written}; runs of `page` {run}"
+                "our calls with memory at the size {at}, above it {above}, one below it {below}; files read {read}, written {written}; runs of `page` {run}, into a full device {full}"
             )
         }
 

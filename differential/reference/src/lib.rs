@@ -3,13 +3,11 @@
 
 pub mod doc;
 
-#[path = "../../../../shared/docs/src/src/cost.rs"]
-pub mod cost;
+splice::module_from! { "src/cost.rs" => pub mod cost {} }
 
-#[path = "../../../../shared/docs/src/src/prepare.rs"]
-pub mod prepare;
+splice::module_from! { "src/prepare.rs" => pub mod prepare {} }
 
-splice::module_from! { "../../../shared/docs/src/src/kernel.rs" => pub mod kernel {
+splice::module_from! { "src/kernel.rs" => pub mod kernel {
     /// Code of the harness inside the reference's module, where it sees the private items. It calls them and alters none.
     pub mod access {
         use super::*;

@@ -1,0 +1,68 @@
+#!/usr/bin/env python3
+"""Runs records/main.rt.txt, a program over `printer::render`, on calls of the frozen sample and holds what it writes to their answers.
+
+No program of crates/ lends records: a function that does is proved by a walk by hand. This one is not proved. It is put into a copy of the
+tree and run from source by `rt try`: interpreted, and compiled three ways. Each call that has a page is made a second time with one span
+record less than its size says, which is refused by 1.
+"""
+import collections, os, shutil, struct, subprocess, sys, tempfile
+
+# The interpreter stops after 10,000,000 steps: calls of more work or visits are left out, and so many are made in one run.
+MOST, AT_ONCE = 1000, 60
+HERE = os.path.dirname(os.path.abspath(__file__))
+LISTED = 'records: file_tables cost stats spans solve_workspace printer io libc\n'
+
+def sample():
+    """The calls of sample/cases.txt: settings, sizes and limits; the file; the lines of the answer."""
+    for case in open(HERE + '/sample/cases.txt').read().strip().split('\n\n'):
+        lines = case.split('\n')
+        said = {line.split()[0]: line.split()[1:] for line in lines}
+        words = [int(word) for name in ('settings', 'sizes', 'limits') for word in said[name]]
+        file = b'' if said['file'] == ['-'] else bytes.fromhex(said['file'][0])
+        answer = [line for line in lines if line.split()[0] in ('page', 'refused', 'cost', 'span', 'counts')]
+        work, visits = int(said['counts'][0]), int(said['counts'][9])
+        if work <= MOST and visits <= MOST:
+            yield words, file, answer
+
+def calls():
+    """With the number of span records that are lent."""
+    for words, file, answer in sample():
+        spans = words[11]
+        yield words + [spans], file, answer
+        if spans > 0 and answer[0].startswith('page'):
+            yield words + [spans - 1], file, ['refused 1 0', 'counts' + ' 0' * 10]
+
+def kind(answer):
+    if answer[0].startswith('refused'):
+        return int(answer[0].split()[1])
+    return -1 if answer[2].startswith('span') else 0
+
+def run(tree, part):
+    """Whether the program writes the answers of these calls."""
+    crate = tree + '/crates/records'
+    with open(crate + '/stdin', 'wb') as stdin, open(crate + '/stdout', 'w') as stdout:
+        for words, file, answer in part:
+            stdin.write(struct.pack('<16Q', *words, len(file)) + file)
+            stdout.write('\n'.join(answer) + '\n\n')
+    done = subprocess.run(['rt', 'try', 'records'], cwd=tree, stdout=subprocess.PIPE, stderr=subprocess.STDOUT, text=True)
+    if done.returncode != 0:
+        print(done.stdout)
+    return done.returncode == 0
+
+def main():
+    every = list(calls())
+    with tempfile.TemporaryDirectory() as tree:
+        shutil.copytree(HERE + '/../crates', tree + '/crates')
+        os.makedirs(tree + '/crates/records/src')
+        shutil.copy(HERE + '/records/main.rt.txt', tree + '/crates/records/src/main.rt')
+        with open(HERE + '/../crates.txt') as listed, open(tree + '/crates.txt', 'w') as copy:
+            copy.write(listed.read() + LISTED)
+        parts = [every[at:at + AT_ONCE] for at in range(0, len(every), AT_ONCE)]
+        differ = sum(not run(tree, part) for part in parts)
+    kinds = collections.Counter(kind(answer) for _, _, answer in every)
+    names = {-1: 'page with spans', 0: 'page without'}
+    print('%d calls of printer::render, four ways each;' % len(every), ', '.join('%s: %d' % (names.get(k, k), n) for k, n in sorted(kinds.items())))
+    print('%d differences, in %d runs' % (differ, len(parts)))
+    return int(differ > 0)
+
+sys.exit(main())
