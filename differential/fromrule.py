@@ -5,6 +5,9 @@ differential/differential/src/sample.rs) by part 4, and by part 2 where the layo
     fromrule.py FILE ..        cases in the sample's form
     fromrule.py --page FILE .. inputs and outputs of the program `page`
     fromrule.py HEX W N P      one file with width, newline cost, policy: page, spans, cost, counts at the sizes of `page`
+    fromrule.py --rule ../docs/RULE.md [--page-program PATH] [--calls-program PATH]
+                               all that the page itself works out, its annex and check numbers (rulepage.py). What `page` can be
+                               asked of it is asked of the first program too, all calls with their sizes of the second (test_calls)
 """
 import sys
 
@@ -262,6 +265,7 @@ class Machine(Rule):
         self.sizes, self.work_limit, self.visit_limit = dict(zip(SIZES, sizes)), work_limit, visit_limit
         self.count = dict.fromkeys(COUNTS, 0)
         self.tasks, self.results, self.pending, self.memo, self.kept, self.plans, self.frontier = [], [], [], {}, [], [], []
+        self.steps = []  # (task, its values, work before and after it), for the tables of 4.6
 
     def need(self, kind, n):
         refuse_if(n > self.sizes[kind], 13 + SIZES.index(kind), n)
@@ -326,7 +330,9 @@ class Machine(Rule):
         self.push(self.tasks, (self.evaluate, (self.file.root, 0, 0)))
         while self.tasks:
             task, *rest = self.tasks.pop()
+            before = self.count['work']
             task(*rest)
+            self.steps.append((task.__name__, rest, before, self.count['work']))
         self.count['plans'] = len(self.plans)
         best = min((self.kept[x] for x in self.results.pop()), key=lambda x: (x[0], x[2]))
         return best[0], best[3]
@@ -547,6 +553,10 @@ def unhex(text):
 
 
 def main(arguments):
+    if arguments[0] == '--rule':
+        import rulepage
+        named = dict(zip(arguments[2::2], arguments[3::2]))
+        sys.exit(rulepage.main(arguments[1], named.get('--page-program'), named.get('--calls-program')))
     if arguments[0] == '--page':
         done = wrong = 0
         for name in arguments[1:]:
