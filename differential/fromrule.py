@@ -554,6 +554,7 @@ def unhex(text):
 
 def main(arguments):
     if arguments[0] == '--rule':
+        sys.dont_write_bytecode = True
         import rulepage
         named = dict(zip(arguments[2::2], arguments[3::2]))
         sys.exit(rulepage.main(arguments[1], named.get('--page-program'), named.get('--calls-program')))

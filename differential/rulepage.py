@@ -1,9 +1,9 @@
 """Reads docs/RULE.md and works out again what it works out: the worked files of part 3 (pages, costs, spans), the steps, counts and
 refusals of part 4, the inputs of part 5, the annex and every check number. `fromrule.py --rule` runs it.
 
-What it looks for is the head of a table, and the words `file`, `input`, `output` and `check` of an indented block. A file in a table is made of parts
-with `and` between them: nothing; `hexadecimal`; 3.4 (the file of that section); 3.4 with `hexadecimal` as line 2 (of its table);
-32,769 bytes `hexadecimal`.
+What it looks for is the head of a table, and the words `file`, `input`, `output` and `check` of an indented block. A file in a table
+is made of parts with `and` between them: nothing; `hexadecimal`; 3.4 (the file of that section); 3.4 with `hexadecimal` as line 2 (of
+its table); 32,769 bytes `hexadecimal`.
 """
 import re
 import subprocess
@@ -43,6 +43,21 @@ def tables(lines):
         if heading:
             section, before = heading[1], ''
         before += ' ' + line
+
+
+def worked_bytes(lines):
+    """The bytes in the columns `bytes`, `file`, `page` and `input` of tables and in files of their own, as they stand."""
+    out, head, of_file = b'', None, False
+    for line in lines:
+        cells = [cell.strip() for cell in line.strip('|').split('|')]
+        if not line.startswith('|'):
+            head, of_file = None, line.startswith('    ') and (of_file or line.strip() == 'file')
+            out += bytes.fromhex(line) if of_file and line.strip() != 'file' else b''
+        elif head:
+            out += b''.join(row_of_bytes(cell) for name, cell in zip(head, cells) if name in ('bytes', 'file', 'page', 'input'))
+        else:
+            head = cells
+    return out
 
 
 def blocks(lines):
@@ -173,9 +188,8 @@ class Page:
         for section, block in blocks(self.lines):
             if block[0] == 'input':
                 everything += self.entry(section, block)
-        files = b''.join(b''.join(records) for records in self.files.values())
-        for what, data in ('the files of part 3', files), ('the annex', everything):
-            for said in re.findall(r'check number of %s\s+is\s+`(\w+)`' % what, self.text) or ['none']:
+        for what, data in ('worked files', worked_bytes(self.lines)), ('annex', everything):
+            for said in re.findall('check number of the %s is `(\\w+)`' % what, ' '.join(self.text.split())) or ['none']:
                 self.agree('check numbers', what, said, check_number(data))
 
     def entry(self, section, block):
