@@ -10,7 +10,7 @@ import collections, os, shutil, struct, subprocess, sys, tempfile
 # The interpreter stops after 10,000,000 steps: calls of more work or visits are left out, and so many are made in one run.
 MOST, AT_ONCE = 1000, 60
 HERE = os.path.dirname(os.path.abspath(__file__))
-LISTED = 'records: file_tables cost stats spans solve_workspace printer io libc\n'
+LISTED = 'test_records: file_tables cost stats spans solve_workspace printer io libc\n'
 
 def sample():
     """The calls of sample/cases.txt: settings, sizes and limits; the file; the lines of the answer."""
@@ -39,12 +39,12 @@ def kind(answer):
 
 def run(tree, part):
     """Whether the program writes the answers of these calls."""
-    crate = tree + '/crates/records'
+    crate = tree + '/crates/test_records'
     with open(crate + '/stdin', 'wb') as stdin, open(crate + '/stdout', 'w') as stdout:
         for words, file, answer in part:
             stdin.write(struct.pack('<16Q', *words, len(file)) + file)
             stdout.write('\n'.join(answer) + '\n\n')
-    done = subprocess.run(['rt', 'try', 'records'], cwd=tree, stdout=subprocess.PIPE, stderr=subprocess.STDOUT, text=True)
+    done = subprocess.run(['rt', 'try', 'test_records'], cwd=tree, stdout=subprocess.PIPE, stderr=subprocess.STDOUT, text=True)
     if done.returncode != 0:
         print(done.stdout)
     return done.returncode == 0
@@ -53,8 +53,8 @@ def main():
     every = list(calls())
     with tempfile.TemporaryDirectory() as tree:
         shutil.copytree(HERE + '/../crates', tree + '/crates')
-        os.makedirs(tree + '/crates/records/src')
-        shutil.copy(HERE + '/records/main.rt.txt', tree + '/crates/records/src/main.rt')
+        os.makedirs(tree + '/crates/test_records/src')
+        shutil.copy(HERE + '/records/main.rt.txt', tree + '/crates/test_records/src/main.rt')
         with open(HERE + '/../crates.txt') as listed, open(tree + '/crates.txt', 'w') as copy:
             copy.write(listed.read() + LISTED)
         parts = [every[at:at + AT_ONCE] for at in range(0, len(every), AT_ONCE)]

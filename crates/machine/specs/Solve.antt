@@ -75,7 +75,8 @@ module _ (R : Rules) (P : Prepared) where
     S₁ ← step R P S
     work-off-all (evaluated f) (length (S₁ .tasks) + 1 - length (S .tasks)) S₁
 
-  -- all tasks: where there is one, its step and then the rest (crate machine_right, Rest)
+  -- all tasks. The Rust takes the task on top until none is left; a definition must recur on what falls, so this one recurs along the references.
+  -- It is the Rust's loop: where there is a task, its step and then the rest, and the end where there is none (machine_right, Rest: rest-step, rest-none)
   unfoldable pub rest : State → Prog State
   rest S = work-off-all (evaluated (P .depth)) (length (S .tasks)) S
 

@@ -15,7 +15,7 @@ use Rattle.materialize.specs.declared.Act.{Act}
 use Rattle.materialize.specs.declared.Act.the-variants.{Pass, Put, Line, Open, Close}
 use Rattle.materialize.specs.Rows.{Row, parent-word, Fits}
 use Rattle.materialize.specs.Walks.{pile, innermost, close-last, tail, opened, rows, Room}
-use Rattle.materialize.specs.Writes.{wrote, Under, depth-after, spans-after, ActFits}
+use Rattle.materialize.specs.Writes.{wrote, Under, depth-after, mark-of, marked, ActFits}
 use Rattle.materialize.proofs.Turns.{pile-one}
 
 -- what a part of a slice, lent and written, leaves in the whole
@@ -58,6 +58,13 @@ pub under-more : (n m : ℕ) (o : List ℕ) → n ≤ m → Under n o → Under 
 under-more n m [] l h = tt
 under-more n m (x ∷ o) l h = (omega (arith, h .0), under-more n m o l (h .1))
 
+pub top-under : (w z : Walk) (o : List ℕ) (n : ℕ) → Room Close n w z → Under (w .spans) (pile o (w .depth)) → getD o (w .depth - 1) 0 < w .spans
+top-under w z o n r u = under-top (w .spans) o (w .depth) (w .depth - 1) (omega (arith, r .1)) u
+
+-- the rows after an act
+abbrev pub spans-after : Act → Walk → List ℕ → List Row → List Row
+spans-after a w h s = marked (mark-of a w h) s
+
 module _ (w z : Walk) (o : List ℕ) (s : List Row) (bytes : List ℕ) where
   pub open-is : (a : Act) → Room a (length bytes) w z → w .depth ≤ length o → z .depth ≤ length o → pile (depth-after a w o) (z .depth) ≡ opened a (w .spans) (pile o (w .depth))
   open-is Pass r l m = ap (pile o) (r .1)
@@ -65,9 +72,6 @@ module _ (w z : Walk) (o : List ℕ) (s : List Row) (bytes : List ℕ) where
   open-is (Line i) r l m = ap (pile o) (r .1)
   open-is (Open k) r l m = rw (r .1) (pile-one o (w .depth) (w .spans) (omega (arith, r .1)))
   open-is Close r l m = let e : w .depth ≡ suc (z .depth) = omega (arith, r .1) in sym (ap (λ (d : ℕ). tail (pile o d)) e)
-
-  pub top-under : Room Close (length bytes) w z → Under (w .spans) (pile o (w .depth)) → getD o (w .depth - 1) 0 < w .spans
-  top-under r u = under-top (w .spans) o (w .depth) (w .depth - 1) (omega (arith, r .1)) u
 
   pub rows-is : (a : Act) → Room a (length bytes) w z → z .spans ≤ length s → Under (w .spans) (pile o (w .depth))
       → take (z .spans) (spans-after a w o s) ≡ rows a (w .at) (pile o (w .depth)) (take (w .spans) s)
@@ -77,7 +81,7 @@ module _ (w z : Walk) (o : List ℕ) (s : List Row) (bytes : List ℕ) where
   rows-is (Open k) r l u = rw (r .0, add-one (w .spans)) (take-suc-set s (w .spans) _ (omega (arith, r .0)))
   rows-is Close r l u =
       let m = getD o (w .depth - 1) 0 in
-      let h : m < w .spans = top-under r u in
+      let h : m < w .spans = top-under w z o (length bytes) r u in
       let e : w .depth ≡ suc (w .depth - 1) = omega (arith, r .1) in
       rw (r .0) (take-set-lt (w .spans) s m (set (getD s m []) 2 (w .at)) h
       ∙ (ap (λ (x : Row). set (take (w .spans) s) m (set x 2 (w .at))) (sym (getD-take (w .spans) s m [] h))
@@ -88,7 +92,7 @@ module _ (w z : Walk) (o : List ℕ) (s : List Row) (bytes : List ℕ) where
   past-is (Put t n) r u = refl
   past-is (Line i) r u = refl
   past-is (Open k) r u = drop-set-lt (z .spans) s (w .spans) _ (omega (arith, r .0))
-  past-is Close r u = drop-set-lt (z .spans) s (getD o (w .depth - 1) 0) _ (omega (arith, r .0, top-under r u))
+  past-is Close r u = drop-set-lt (z .spans) s (getD o (w .depth - 1) 0) _ (omega (arith, r .0, top-under w z o (length bytes) r u))
 
   pub spans-rise : (a : Act) → Room a (length bytes) w z → w .spans ≤ z .spans
   spans-rise Pass r = omega (arith, r .0)
@@ -108,7 +112,7 @@ module _ (w z : Walk) (o : List ℕ) (s : List Row) (bytes : List ℕ) where
   under-is (Open k) r u = (omega (arith, r .0), under-more (w .spans) (z .spans) (pile o (w .depth)) (spans-rise (Open k) r) u)
   under-is Close r u = under-more (w .spans) (z .spans) (tail (pile o (w .depth))) (spans-rise Close r) (under-tail (w .spans) (pile o (w .depth)) u)
 
-parent-low : (n : ℕ) (l : List ℕ) → Under n l → parent-word (innermost l) ≤ n
+pub parent-low : (n : ℕ) (l : List ℕ) → Under n l → parent-word (innermost l) ≤ n
 parent-low n [] u = omega arith
 parent-low n (x ∷ l) u = omega (arith, u .0)
 
@@ -133,7 +137,7 @@ module _ (w z : Walk) (o : List ℕ) (s : List Row) (bytes : List ℕ) where
       set-fits s (w .spans) _ k (omega (arith, r .0)) (g, omega (arith, parent-low (w .spans) (pile o (w .depth)) u)) (λ d. f k (omega (arith, d, r .0)))
   rows-fit Close r v m l u f g k h =
       let n = getD o (w .depth - 1) 0 in
-      let q : n < w .spans = top-under w z o s bytes r u in
+      let q : n < w .spans = top-under w z o (length bytes) r u in
       set-fits s n _ k (omega arith) (end-fits (getD s n []) (w .at) (f n q)) (λ d. f k (omega (arith, r .0)))
 
 pub drop-later : {A : Type 0} (n m : ℕ) (s r : List A) → n ≤ m → drop n s ≡ drop n r → drop m s ≡ drop m r

@@ -10,7 +10,7 @@ use mathlib.Core.Option.{none}
 use Rattle.file_tables.specs.Tables.{byte-length, byte-start}
 use Rattle.layout.specs.Layout.{Plan, page}
 use Rattle.layout.specs.Spans.{spans}
-use Rattle.machine.specs.Events.{Bounds, Counts, no-counts, visit, Need, ret, emit, _>>_, run}
+use Rattle.machine.specs.Events.{no-counts, visit, Need, ret, emit, _>>_}
 use Rattle.machine.specs.Materializer.{marks, visit-plan, materialize}
 use Rattle.materialize.specs.declared.Capacity.{Capacity}
 use Rattle.materialize.specs.declared.Exhausted.{Exhausted}
@@ -22,8 +22,8 @@ use Rattle.materialize.specs.declared.Visited.the-variants.{Went, Stoppe
 use Rattle.materialize.specs.declared.Measured.the-variants.{Page, Refused}
 use Rattle.materialize.specs.Rows.{Row}
 use Rattle.materialize.specs.Texts.{text-row, InBytes}
-use Rattle.materialize.specs.Answer.{with-visits, told, Agrees}
-use Rattle.materialize.specs.Walks.{Around, limits, ran, pile, works, plan, ahead, pages, marks-in, puts, Sound, Walked, Turned, Answered}
+use Rattle.materialize.specs.Answer.{told}
+use Rattle.materialize.specs.Walks.{Around, begin, ran, pile, works, plan, ahead, pages, marks-in, puts, Sound, Walked, Turned, Answered}
 use Rattle.materialize.proofs.Runs.{Program, need-go, need-stop}
 use Rattle.materialize.proofs.Moves.{spans-length}
 
@@ -52,14 +52,6 @@ some-around = record {
   counts = no-counts;
 }
 
--- bounds that agree, and counts without visits
-limits-is : (c : Capacity) (b : Bounds) → Agrees c b → limits c b ≡ b
-limits-is c b a = rw (← a .visit, ← a .depth, ← a .output, ← a .spans, ← a .visit-limit)
-
-pub agreed : (c : Capacity) (b : Bounds) (k : Counts) (p : Program) → Agrees c b → k .visits ≡ 0 → ran c (record { bounds = b; counts = k }) 0 p ≡ run b k p
-unfolding ran
-agreed c b k p a z = ap (λ (x : Bounds). run x (with-visits k 0) p) (limits-is c b a) ∙ ap (λ (v : ℕ). run b (with-visits k v) p) (sym z)
-
 -- ---- a turn's promise, by what it answers
 
 pub turned-went : (c : Capacity) (o : Around) (P X : List Row) (bytes e x : List ℕ) (w z : Walk) (a : Act) (r : Visited) → Turned c o P X bytes e w x r → r ≡ Went z a
@@ -77,9 +69,6 @@ pub record Along (c : Capacity) (o : Around) (P X : List Row) (bytes : List ℕ)
   pub leads : ran c o 0 (materialize (plan P X bytes root)) ≡ ran c o (w .visits) (ahead (works (plan P X bytes) S) w)
   pub sized : w .at + length (pages (works (plan P X bytes) S)) ≡ length (page (plan P X bytes root))
   pub counted : w .spans + marks-in (works (plan P X bytes) S) ≡ marks (plan P X bytes root)
-
-abbrev pub begin : Walk
-begin = record { top = 1; depth = 0; at = 0; spans = 0; visits = 0 }
 
 whole : (p : Plan) → materialize p ≡ emit (Need visit 1) (visit-plan p 0 0 0 0)
 unfolding materialize

@@ -2,29 +2,33 @@
 use mathlib.Core.Path.{_≡_, refl, sym, ap, ap₂, subst, _∙_}
 use mathlib.Core.Bool.{Bool, true, false}
 use mathlib.Core.List.{List, [], _++_, append-nil, append-assoc}
-use Prim.Native.Nat.{ℕ, zero, suc, _+_, _≤_, _<_, _^_}
+use Prim.Native.Nat.{ℕ, _+_, _≤_, _<_, _^_}
 use native.Mathlib.Omega.{arith}
 use borrow.Author.Tests.{leb-true, leb-false}
 use lib.Dec.{leb}
 use lib.ListN.{length, length-append, length-drop, length-replicate, getD, set, take, drop, take-append-drop}
 use lib.Seq.{length-take-le, take-at, drop-at, getD-take}
 use Rattle.layout.specs.Layout.{Plan, page}
-use Rattle.plan.specs.Arena.{arena}
+use Rattle.machine.specs.Events.{Counts, Out, done}
 use Rattle.machine.specs.Materializer.{materialize}
 use Rattle.materialize.specs.declared.Capacity.{Capacity}
 use Rattle.materialize.specs.declared.Walk.{Walk}
 use Rattle.materialize.specs.declared.Act.{Act}
 use Rattle.materialize.specs.declared.Act.the-variants.{Pass, Put, Line, Open, Close}
+use Rattle.materialize.specs.declared.Visited.{Visited}
+use Rattle.materialize.specs.declared.Visited.the-variants.{Went}
+use Rattle.materialize.specs.declared.Mark.{Mark}
+use Rattle.materialize.specs.declared.Mark.the-variants.{Nothing, Open as Opens, Close as Closes}
 use Rattle.materialize.specs.declared.Measured.{Measured}
 use Rattle.materialize.specs.declared.Measured.the-variants.{Page}
 use Rattle.materialize.specs.Rows.{Row, span-rows, Fits}
-use Rattle.materialize.specs.Texts.{layout, InBytes, Planned}
-use Rattle.materialize.specs.Answer.{over, after, Fitting, Materialized}
-use Rattle.materialize.specs.Walks.{pile, works, plan, pages, ends, puts, Room, Passing, Sound, Walked, Answered}
-use Rattle.materialize.specs.Writes.{wrote, Under, depth-after, spans-after, ActFits, Allowed, Passes, Written, Writing}
-use Rattle.materialize.proofs.Parts.{under-more, open-is, top-under, rows-is, past-is, spans-rise, under-is, rows-fit, drop-later}
+use Rattle.materialize.specs.Texts.{InBytes}
+use Rattle.materialize.specs.Answer.{with-visits, over}
+use Rattle.materialize.specs.Walks.{Around, begin, ran, pile, works, plan, ahead, pages, ends, puts, Room, Passing, Sound, Standing, Walked, Turned, Answered}
+use Rattle.materialize.specs.Writes.{wrote, Under, depth-after, mark-of, MarkFits, ActFits, Allowed, Performed, Turning, Stepped, Passes, Written, Writing}
+use Rattle.materialize.proofs.Parts.{spans-after, under-more, open-is, top-under, parent-low, rows-is, past-is, spans-rise, under-is, rows-fit, drop-later}
 use Rattle.materialize.proofs.Untested.{never}
-use Rattle.materialize.proofs.Passes.{some-around, agreed, begin, first-pile, along-begin, none-fits}
+use Rattle.materialize.proofs.Passes.{some-around, turned-went, first-pile, along-begin, none-fits}
 
 module _ {c : Capacity} {P X : List Row} {bytes : List ℕ} {root : ℕ} {S U : List ℕ} {w z : Walk} {a : Act} {out₀ out o : List ℕ} {s₀ s : List Row}
     (h : Writing c P X bytes root S w out₀ out o s₀ s) (g : Walked c (h .around) P X bytes S w U z a) (sd : Sound c (length P) S w)
@@ -70,23 +74,63 @@ module _ {c : Capacity} {P X : List Row} {bytes : List ℕ} {root : ℕ} {S U : 
         below = subst (λ (l : List ℕ). Under (z .spans) l) (sym so) (under-is w z o s bytes a (m .room) (h .below));
       }
 
-  allowed-by : (x : Act) → Room x (length bytes) w z → z .at ≡ w .at + length (puts bytes x) → z .at ≤ length out → w .spans < 2 ^ 32 → Allowed x w bytes o out s
-  allowed-by Pass r e l v = tt
-  allowed-by (Put t n) r e l v =
+-- what a turn may do, and what it promises
+module _ {c : Capacity} {P X : List Row} {bytes e o out : List ℕ} {w : Walk} (t : Turning c P X bytes e o out w) {r : Visited} (x : List ℕ) {z : Walk} {a : Act}
+    (turned : (i : Around) (bs : List ℕ) → InBytes X bs → Turned c i P X bs e w x r) (q : r ≡ Went z a) where
+  walked : (i : Around) → Walked c i P X bytes (pile e (w .top)) w (pile x (z .top)) z a
+  walked i = turned-went c i P X bytes e x w z a r (turned i bytes (t .inside)) q
+
+  sd : Sound c (length P) (pile e (w .top)) w
+  sd = t .standing .sound
+
+  few : c .spans < 2 ^ 32
+  few = t .standing .small .spans-fits
+
+  allowed-by : (x : Act) → Room x (length bytes) w z → z .at ≡ w .at + length (puts bytes x) → z .at ≤ length out → z .depth ≤ c .depth → w .spans < 2 ^ 32 → Allowed x w bytes o out
+  allowed-by Pass r e l d v = tt
+  allowed-by (Put t n) r e l d v =
       let q : length (take n (drop t bytes)) ≡ n = length-take-le n (drop t bytes) (omega (arith, length-drop t bytes, r .2)) in
       (r .2, omega (arith, q))
-  allowed-by (Line i) r e l v = omega (arith, length-replicate {A = ℕ} i 32)
-  allowed-by (Open k) r e l v =
-      (omega (arith, r .1, g .sound .depth-le), omega (arith, r .0, g .sound .spans-le), under-more (w .spans) (2 ^ 32) (pile o (w .depth)) (omega arith) (h .below))
-  allowed-by Close r e l v =
-      (omega (arith, r .1), omega (arith, sd .depth-le), omega (arith, top-under w z o s bytes r (h .below), sd .spans-le))
+  allowed-by (Line i) r e l d v = omega (arith, length-replicate {A = ℕ} i 32)
+  allowed-by (Open k) r e l d v = (omega (arith, r .1, t .depth-lent), under-more (w .spans) (2 ^ 32) (pile o (w .depth)) (omega arith) (t .below))
+  allowed-by Close r e l d v = (omega (arith, r .1), omega (arith, sd .depth-le, t .depth-lent))
 
-  pub allowed : c .spans < 2 ^ 32 → Allowed a w bytes o out s
-  allowed v = allowed-by a (g .moved .room) (g .moved .at-is) (omega (arith, g .sound .at-le)) (omega (arith, sd .spans-le))
+  pub allowed : Allowed a w bytes o out
+  allowed =
+      let g = walked some-around in
+      allowed-by a (g .moved .room) (g .moved .at-is) (omega (arith, g .sound .at-le, t .output-lent)) (g .sound .depth-le) (omega (arith, sd .spans-le, few))
+
+  mark-fits : (x : Act) → Room x (length bytes) w z → z .spans ≤ c .spans → MarkFits (c .spans) (mark-of x w o)
+  mark-fits Pass r l = tt
+  mark-fits (Put t n) r l = tt
+  mark-fits (Line i) r l = tt
+  mark-fits (Open k) r l = (omega (arith, r .0), omega (arith, parent-low (w .spans) (pile o (w .depth)) (t .below), sd .spans-le, few))
+  mark-fits Close r l = omega (arith, top-under w z o (length bytes) r (t .below), sd .spans-le)
+
+  pub stepped : {h out′ : List ℕ} {m : Mark} → Performed a w bytes o h out out′ m → c .«visit_limit» < 2 ^ 64 → Stepped c P X bytes e o out w x h out′ (record { walk = z; mark = m })
+  stepped {h} {out′} {m} p v =
+      let g = walked some-around in
+      record {
+        counted = g .moved .counted;
+        in-range = omega (arith, g .sound .visits-le, v);
+        fits = rw (p .mark-is) (mark-fits a (g .moved .room) (g .sound .spans-le));
+        leads = λ i. walked i .moved .leads;
+        sound = g .sound;
+        writing = λ root b s₀ s l k. rw (p .output-is, p .depth-is, p .mark-is) (writing-step k (walked (k .around)) sd (t .output-lent) (t .depth-lent) l few (p .fits));
+      }
 
 abbrev pub passing : {c : Capacity} {P X : List Row} {bytes : List ℕ} {root : ℕ} {w : Walk} {out₀ out o : List ℕ} {s₀ s : List Row} (e : List ℕ)
     → Writing c P X bytes root (pile e (w .top)) w out₀ out o s₀ s → InBytes X bytes → Passing c P X e w
 passing {bytes = bytes} e h i = record { bytes = bytes; inside = i; around = h .around; visits = h .visits; passes = h .passes }
+
+pub mark-fits-more : (m : Mark) (n k : ℕ) → MarkFits n m → n ≤ k → MarkFits k m
+mark-fits-more Nothing n k f l = tt
+mark-fits-more (Opens i a at up) n k f l = (omega (arith, f .0), f .1)
+mark-fits-more (Closes i at) n k f l = omega arith
+
+abbrev pub turning : {c : Capacity} {P X : List Row} {bytes : List ℕ} {root : ℕ} {w : Walk} {out₀ out o : List ℕ} {s₀ s : List Row} (e : List ℕ)
+    → Writing c P X bytes root (pile e (w .top)) w out₀ out o s₀ s → Standing c P X e w → InBytes X bytes → c .depth ≤ length o → c .output ≤ length out → Turning c P X bytes e o out w
+turning e h st i l m = record { standing = st; inside = i; depth-lent = l; output-lent = m; passing = passing e h i; below = h .below }
 
 pub some-visit : (c : Capacity) (p : Plan) → Passes c p → 0 < c .visit
 some-visit c p h = go (leb 1 (c .visit)) refl
@@ -136,6 +180,19 @@ module _ {c : Capacity} {P X : List Row} {bytes : List ℕ} {root : ℕ} {w : Wa
         fits = λ k j. subst (λ (rows : List Row). Fits (getD rows k [])) (at-end .spans-is) (rw (getD-take (w .spans) s k [] (omega (arith, n))) (at-end .fits k (omega (arith, n))));
       }
 
+-- a run that is led to its end has made the visits with which it passes
+pub visits-end : (c : Capacity) (P X : List Row) (bytes : List ℕ) (root : ℕ) (e : List ℕ) (w : Walk)
+    → ((i : Around) → ran c i 0 (materialize (plan P X bytes root)) ≡ ran c i (w .visits) (ahead (works (plan P X bytes) (pile e (w .top))) w)) → w .top ≡ 0
+    → (h : Passes c (plan P X bytes root)) → w .visits ≡ h .visits
+unfolding ran
+visits-end c P X bytes root e w l q h =
+    let k : ran c (h .around) 0 (materialize (plan P X bytes root)) ≡ done (with-visits (h .around .counts) (w .visits)) tt =
+    subst (λ (n : ℕ). ran c (h .around) 0 (materialize (plan P X bytes root)) ≡ ran c (h .around) (w .visits) (ahead (works (plan P X bytes) (pile e n)) w)) q (l (h .around)) in
+    same (h .around .counts) (w .visits) (h .visits) (sym k ∙ h .passed)
+  where
+    same : (k : Counts) (v u : ℕ) → _≡_ {A = Out (Unit {0})} (done (with-visits k v) tt) (done (with-visits k u) tt) → v ≡ u
+    same k v u e = let q : with-visits k v ≡ with-visits k u = cc in ap (λ (z : Counts). z .visits) q
+
 -- ---- both passes
 
 -- the first pass's answer is the second's leave to write
@@ -143,40 +200,3 @@ pub page-passes : (c : Capacity) (p : Plan) (l n k : ℕ) (r : Measured) → Ans
 page-passes c p l n k r h q =
     let g = subst (λ (x : Measured). Answered c p x) q h in
     record { around = some-around; visits = k; passed = sym (g .answer some-around) }
-
--- the first n records by themselves
-arena-cut : (rows : List Row) (n m : ℕ) → m ≤ n → arena (take n rows) m ≡ arena rows m
-unfolding arena
-arena-cut rows n zero h = refl
-arena-cut rows n (suc m) h = rw (arena-cut rows n m (omega arith), getD-take n rows m [] (omega arith))
-
-module _ (P : List Row) (n : ℕ) (X : List Row) (root : ℕ) (p : Planned P n X root) where
-  cut-length : length (take n P) ≡ n
-  cut-length = length-take-le n P (p .lent)
-
-  cut-arena : arena (take n P) (length (take n P)) ≡ arena P n
-  cut-arena = rw cut-length (arena-cut P n n (omega arith))
-
-  pub cut-planned : Planned (take n P) (length (take n P)) X root
-  cut-planned = record {
-    lent = omega arith;
-    few = rw cut-length (p .few);
-    ranked = rw cut-arena (p .ranked);
-    rooted = rw cut-length (p .rooted);
-  }
-
-  pub cut-plan : (bytes : List ℕ) → plan (take n P) X bytes root ≡ layout P n X bytes root
-  cut-plan bytes = rw cut-arena
-
--- the whole promise
-pub promised : (c : Capacity) (p q : Plan) (out₀ out : List ℕ) (s₀ s : List Row) (r m : Measured) → Answered c q m → q ≡ p → m ≡ r
-    → out ≡ after r (page q) out₀ → s ≡ after r (span-rows q) s₀ → Fitting q r → Materialized c p out₀ out s₀ s r
-promised c p q out₀ out s₀ s r m a e f g h j =
-    let b : Answered c p r = subst (λ (x : Measured). Answered c p x) f (subst (λ (x : Plan). Answered c x m) e a) in
-    record {
-      answer = λ B k ag z. b .answer (record { bounds = B; counts = k }) ∙ agreed c B k (materialize p) ag z;
-      sized = b .sized;
-      output-is = g ∙ ap (λ (x : Plan). after r (page x) out₀) e;
-      spans-is = h ∙ ap (λ (x : Plan). after r (span-rows x) s₀) e;
-      fitting = subst (λ (x : Plan). Fitting x r) e j;
-    }

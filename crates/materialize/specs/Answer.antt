@@ -5,15 +5,14 @@ use Prim.Native.Nat.{ℕ, _≤_, _<_, _^_}
 use lib.ListN.{length, drop}
 use Rattle.layout.specs.Layout.{Plan, page}
 use Rattle.layout.specs.Spans.{spans}
-use Rattle.machine.specs.Events.{Bounds, Counts, Why, too-small, visits-spent, Out, done, stop, run}
+use Rattle.machine.specs.Events.{Counts, Why, too-small, visits-spent, Out, done, stop, run}
 use Rattle.machine.specs.Events.{visit as visit-size, depth as depth-size, output as output-size, spans as spans-size}
-use Rattle.machine.specs.Materializer.{materialize}
 use Rattle.materialize.specs.declared.Capacity.{Capacity}
 use Rattle.materialize.specs.declared.Exhausted.{Exhausted}
 use Rattle.materialize.specs.declared.Exhausted.the-variants.{Visit, Depth, Output, Spans, Visits}
 use Rattle.materialize.specs.declared.Measured.{Measured}
 use Rattle.materialize.specs.declared.Measured.the-variants.{Page, Refused}
-use Rattle.materialize.specs.Rows.{Row, span-rows, AllFit}
+use Rattle.materialize.specs.Rows.{Row}
 
 -- why the machine stops: document 01's 18 to 22
 abbrev pub why-of : Exhausted → Why
@@ -47,35 +46,9 @@ abbrev pub Sized : Plan → Measured → Type 0
 Sized p (Page n m v) = (n ≡ length (page p)) × (m ≡ length (spans p))
 Sized p (Refused e needed v) = Unit {0}
 
--- a page's rows have their place in span records
-abbrev pub Fitting : Plan → Measured → Type 0
-Fitting p (Page n m v) = AllFit (span-rows p)
-Fitting p (Refused e needed v) = Unit {0}
-
--- bounds that have these sizes and this visit limit; the solver's may be any
-pub record Agrees (c : Capacity) (b : Bounds) : Type 0 where
-  pub visit : b .visit ≡ c .visit
-  pub depth : b .depth ≡ c .depth
-  pub output : b .output ≡ c .output
-  pub spans : b .spans ≡ c .spans
-  pub visit-limit : b .visit-limit ≡ c .«visit_limit»
-
 -- xs lies over the front of l, and what is past it stays
 abbrev pub over : {A : Type 0} → List A → List A → List A
 over xs l = xs ++ drop (length xs) l
-
--- a refusal alters nothing
-abbrev pub after : {A : Type 0} → Measured → List A → List A → List A
-after (Page n m v) xs l = over xs l
-after (Refused e needed v) xs l = l
-
--- the whole promise: the answer is the machine's, whatever the solver counted; a page stands in output and spans, and what stood past its end is unaltered
-pub record Materialized (c : Capacity) (p : Plan) (output₀ output : List ℕ) (spans₀ spans : List Row) (r : Measured) : Type 0 where
-  pub answer : (b : Bounds) (k : Counts) → Agrees c b → k .visits ≡ 0 → told k r ≡ run b k (materialize p)
-  pub sized : Sized p r
-  pub output-is : output ≡ after r (page p) output₀
-  pub spans-is : spans ≡ after r (span-rows p) spans₀
-  pub fitting : Fitting p r
 
 -- sizes are numbers of 32 bits
 pub record Small (c : Capacity) : Type 0 where

@@ -1,4 +1,4 @@
--- A span as a row of words holds it (crate spans reads it back by spanOf): annotation, start, end, parent.
+-- A span as a row of words holds it: annotation, start, end, parent.
 use mathlib.Core.Option.{Option, none, some}
 use mathlib.Core.List.{List, [], _∷_, map}
 use Prim.Native.Nat.{ℕ, suc, _<_, _≤_, _^_}

@@ -1,4 +1,4 @@
--- What the visit stack will come to, and what a turn of the walk promises. For the functions of this crate alone.
+-- What the visit stack will come to, what a turn of the walk promises, and what the first pass does (`Answered`, which `render` cites).
 use mathlib.Core.Path.{_≡_}
 use mathlib.Core.Bool.{Bool, false, cond}
 use mathlib.Core.Option.{Option, none, some}
@@ -28,6 +28,10 @@ use Rattle.materialize.specs.Texts.{layout, InBytes}
 use Rattle.materialize.specs.Answer.{with-visits, told, Sized, Small}
 
 -- ---- runs
+
+-- where a walk begins: the root is the one item
+abbrev pub begin : Walk
+begin = record { top = 1; depth = 0; at = 0; spans = 0; visits = 0 }
 
 -- the solver's bounds and counts, whatever they are
 pub record Around : Type 0 where

@@ -6,13 +6,13 @@ ghost use mathlib.Core.Bool.{true, false};
 ghost use mathlib.Core.List.{List, _∷_, _++_};
 ghost use Prim.Native.Nat.{ℕ, _+_, _-_, _≤_, _<_, _^_};
 ghost use lib.Dec.{leb};
-ghost use lib.ListN.{length, take, drop, getD, set, replicate};
+ghost use lib.ListN.{length, take, drop, set, replicate};
 ghost use Rattle.file_tables.specs.Tables.{byte-start, byte-length};
 ghost use Rattle.materialize.specs.Rows.{parent-word};
-ghost use Rattle.materialize.specs.Texts.{text-row, layout, InBytes, Planned};
-ghost use Rattle.materialize.specs.Answer.{Small, Lent, Materialized};
-ghost use Rattle.materialize.specs.Walks.{Around, pile, plan, innermost, span-row, close, at-top, text-turn, newline-turn, two-turn, two-words, annotate-turn, annotate-words, Sure, Standing, Passing, Turned, Answered};
-ghost use Rattle.materialize.specs.Writes.{wrote, Under, Allowed, Performed, Passes, Written};
+ghost use Rattle.materialize.specs.Texts.{text-row, InBytes, Planned};
+ghost use Rattle.materialize.specs.Answer.{Small, Lent};
+ghost use Rattle.materialize.specs.Walks.{Around, pile, plan, innermost, begin, at-top, text-turn, newline-turn, two-turn, two-words, annotate-turn, annotate-words, Sure, Standing, Passing, Turned, Answered};
+ghost use Rattle.materialize.specs.Writes.{wrote, Under, depth-after, mark-of, marked, MarkFits, Allowed, Performed, InUse, Turning, Stepped, Passes, Written};
 use file_tables::AnnotationId;
 use file_tables::TextId;
 use plan::PlanId;
@@ -64,6 +64,27 @@ pub enum Act {
 pub enum Visited {
     Went(Walk, Act),
     Stopped(Exhausted, usize, u64),
+}
+
+// What an item makes of the list of spans: nothing; the span of a number opens, with its annotation, its position, and its parent's word (0, or one more than the parent's number); it closes at a position.
+pub enum Mark {
+    Nothing,
+    Open(usize, AnnotationId, u64, u64),
+    Close(usize, u64),
+}
+
+// The plan that is laid out, and how many plan records, texts and bytes of the lent tables are in use.
+pub struct Chosen {
+    pub root: PlanId,
+    pub plans: usize,
+    pub texts: usize,
+    pub bytes: usize,
+}
+
+// A turn of the second pass: where the walk stands then, and what is to be marked.
+pub struct Step {
+    pub walk: Walk,
+    pub mark: Mark,
 }
 
 fn wide(x: u32) -> usize
@@ -246,8 +267,23 @@ fn visit_item(
     }
 }
 
+// The visit stack as both passes begin: the root alone.
+pub fn begin_walk(visit: &mut [usize], root: PlanId) -> Walk
+    requires { ⌜ 0 < length (now visit) ⌝ }
+    ensures { λ r. ⌜ (r ≡ begin) × (now (visit .exit) ≡ set (now (visit .entry)) 0 (root .0 + 1)) ⌝ }
+{
+    visit[0] = word_of(root);
+    Walk {
+        top: 1,
+        depth: 0,
+        at: 0,
+        spans: 0,
+        visits: 0,
+    }
+}
+
 // The first pass: what the page needs, or the first limit that it passes. It writes the visit stack alone.
-fn measure(
+pub fn measure(
     capacity: Capacity,
     plans: &[[u32; 3]],
     texts: &[[u32; 3]],
@@ -261,14 +297,7 @@ fn measure(
         return Measured::Refused(Exhausted::Visit, 1, 0);
     }
     let number = root.0;
-    visit[0] = word_of(PlanId(number));
-    let mut w = Walk {
-        top: 1,
-        depth: 0,
-        at: 0,
-        spans: 0,
-        visits: 0,
-    };
+    let mut w = begin_walk(visit, PlanId(number));
     while 0 < w.top {
         if capacity.visit_limit <= w.visits {
             return Measured::Refused(Exhausted::Visits, 0, w.visits);
@@ -339,63 +368,135 @@ fn parent(depth: &[usize], level: usize) -> usize
     depth[level - 1] + 1
 }
 
-// A span opens: its row, whose end is not known yet, and its number among the open ones.
-fn push_open_span(annotation: AnnotationId, w: Walk, depth: &mut [usize], spans: &mut [[u64; 4]])
-    requires { ⌜ (w .depth < length (now depth)) × (w .spans < length (now spans)) × Under (2 ^ 32) (pile (now depth) (w .depth)) ⌝ }
-    ensures { λ _. ⌜ (now (depth .exit) ≡ set (now (depth .entry)) (w .depth) (w .spans)) × (now (spans .exit) ≡ set (now (spans .entry)) (w .spans) (span-row (annotation .0) (w .at) (w .at) (innermost (pile (now (depth .entry)) (w .depth))))) × (annotation .0 < 2 ^ 32) ⌝ }
+// A span opens: it is told, and its number is the last of the open ones.
+fn push_open_span(annotation: AnnotationId, w: Walk, depth: &mut [usize]) -> Mark
+    requires { ⌜ (w .depth < length (now depth)) × Under (2 ^ 32) (pile (now depth) (w .depth)) ⌝ }
+    ensures { λ r. ⌜ (now (depth .exit) ≡ depth-after (Act.Open annotation) w (now (depth .entry))) × (r ≡ mark-of (Act.Open annotation) w (now (depth .entry))) × (annotation .0 < 2 ^ 32) ⌝ }
 {
     let level = w.depth;
     let n = w.spans;
     let at = w.at;
     let up = parent(depth, level);
-    let number = annotation.0;
-    spans[n] = [number as u64, at as u64, at as u64, up as u64];
     depth[level] = n;
+    Mark::Open(n, annotation, at as u64, up as u64)
 }
 
-// The last open span closes.
-fn pop_open_span(w: Walk, depth: &[usize], spans: &mut [[u64; 4]])
-    requires { ⌜ (0 < w .depth) × (w .depth ≤ length (now depth)) × (getD (now depth) (w .depth - 1) 0 < length (now spans)) ⌝ }
-    ensures { λ _. ⌜ now (spans .exit) ≡ close (now (spans .entry)) (getD (now (depth .entry)) (w .depth - 1) 0) (w .at) ⌝ }
+// The last open span closes: it is told.
+fn pop_open_span(w: Walk, depth: &[usize]) -> Mark
+    requires { ⌜ (0 < w .depth) × (w .depth ≤ length (now depth)) ⌝ }
+    ensures { λ r. ⌜ r ≡ mark-of Act.Close w (now (depth .entry)) ⌝ }
 {
     let level = w.depth;
     let at = w.at;
     let n = depth[level - 1];
-    spans[n][2] = at as u64;
+    Mark::Close(n, at as u64)
 }
 
-// What an item puts is put.
-fn perform(
-    act: Act,
-    w: Walk,
-    bytes: &[u8],
-    depth: &mut [usize],
-    output: &mut [u8],
-    spans: &mut [[u64; 4]],
-)
-    requires { ⌜ Allowed act w (now bytes) (now depth) (now output) (now spans) ⌝ }
-    ensures { λ _. ⌜ Performed act w (now (bytes .entry)) (now (depth .entry)) (now (depth .exit)) (now (output .entry)) (now (output .exit)) (now (spans .entry)) (now (spans .exit)) ⌝ }
+// What an item puts is put; what it marks is told.
+fn perform(act: Act, w: Walk, bytes: &[u8], depth: &mut [usize], output: &mut [u8]) -> Mark
+    requires { ⌜ Allowed act w (now bytes) (now depth) (now output) ⌝ }
+    ensures { λ r. ⌜ Performed act w (now (bytes .entry)) (now (depth .entry)) (now (depth .exit)) (now (output .entry)) (now (output .exit)) r ⌝ }
 {
     let at = w.at;
     match act {
-        Act::Pass => {}
+        Act::Pass => {
+            return Mark::Nothing;
+        }
         Act::Put(start, len) => {
             put_text(bytes, start, len, output, at);
+            return Mark::Nothing;
         }
         Act::Line(indent) => {
             put_newline(indent, output, at);
+            return Mark::Nothing;
         }
         Act::Open(annotation) => {
-            push_open_span(annotation, w, depth, spans);
+            return push_open_span(annotation, w, depth);
         }
         Act::Close => {
-            pop_open_span(w, depth, spans);
+            return pop_open_span(w, depth);
         }
     }
 }
 
-// The second pass, over a plan that the first has passed: the page and the spans. No test could fail, so none is made.
-fn write(
+// A turn of the second pass. No test could fail, so none is made, and the walk is never stopped.
+pub fn turn(
+    capacity: Capacity,
+    w: Walk,
+    plans: &[[u32; 3]],
+    texts: &[[u32; 3]],
+    bytes: &[u8],
+    visit: &mut [usize],
+    depth: &mut [usize],
+    output: &mut [u8],
+) -> Step
+    requires { ⌜ Turning capacity (now plans) (now texts) (now bytes) (now visit) (now depth) (now output) w ⌝ }
+    ensures { λ r. ⌜ Stepped capacity (now (plans .entry)) (now (texts .entry)) (now (bytes .entry)) (now (visit .entry)) (now (depth .entry)) (now (output .entry)) w (now (visit .exit)) (now (depth .exit)) (now (output .exit)) r ⌝ }
+{
+    let v = visit_item(capacity, false, w, plans, texts, visit);
+    match v {
+        Visited::Stopped(_, _, _) => {
+            return Step {
+                walk: w,
+                mark: Mark::Nothing,
+            };
+        }
+        Visited::Went(z, act) => {
+            let mark = perform(act, w, bytes, depth, output);
+            return Step {
+                walk: z,
+                mark: mark,
+            };
+        }
+    }
+}
+
+// A turn over the part of the tables that is in use.
+pub fn turn_within(
+    capacity: Capacity,
+    chosen: Chosen,
+    w: Walk,
+    plans: &[[u32; 3]],
+    texts: &[[u32; 3]],
+    bytes: &[u8],
+    visit: &mut [usize],
+    depth: &mut [usize],
+    output: &mut [u8],
+) -> Step
+    requires { ⌜ InUse chosen (now plans) (now texts) (now bytes) × Turning capacity (take (chosen .plans) (now plans)) (take (chosen .texts) (now texts)) (take (chosen .bytes) (now bytes)) (now visit) (now depth) (now output) w ⌝ }
+    ensures { λ r. ⌜ Stepped capacity (take (chosen .plans) (now (plans .entry))) (take (chosen .texts) (now (texts .entry))) (take (chosen .bytes) (now (bytes .entry))) (now (visit .entry)) (now (depth .entry)) (now (output .entry)) w (now (visit .exit)) (now (depth .exit)) (now (output .exit)) r ⌝ }
+{
+    turn(
+        capacity,
+        w,
+        &plans[..chosen.plans],
+        &texts[..chosen.texts],
+        &bytes[..chosen.bytes],
+        visit,
+        depth,
+        output,
+    )
+}
+
+// What is to be marked, in rows of words.
+fn mark_row(mark: Mark, spans: &mut [[u64; 4]])
+    requires { ⌜ MarkFits (length (now spans)) mark ⌝ }
+    ensures { λ _. ⌜ now (spans .exit) ≡ marked mark (now (spans .entry)) ⌝ }
+{
+    match mark {
+        Mark::Nothing => {}
+        Mark::Open(n, annotation, at, up) => {
+            let number = annotation.0;
+            spans[n] = [number as u64, at, at, up];
+        }
+        Mark::Close(n, at) => {
+            spans[n][2] = at;
+        }
+    }
+}
+
+// The second pass, over a plan that the first has passed: the page, and the spans in rows of words.
+pub fn write(
     capacity: Capacity,
     plans: &[[u32; 3]],
     texts: &[[u32; 3]],
@@ -410,62 +511,11 @@ fn write(
     ensures { λ _. ⌜ Written (plan (now (plans .entry)) (now (texts .entry)) (now (bytes .entry)) (root .0)) (now (output .entry)) (now (output .exit)) (now (spans .entry)) (now (spans .exit)) ⌝ }
 {
     let number = root.0;
-    visit[0] = word_of(PlanId(number));
-    let mut w = Walk {
-        top: 1,
-        depth: 0,
-        at: 0,
-        spans: 0,
-        visits: 0,
-    };
+    let mut w = begin_walk(visit, PlanId(number));
     while 0 < w.top {
-        let s = visit_item(capacity, false, w, plans, texts, visit);
-        match s {
-            Visited::Stopped(_, _, _) => {
-                return;
-            }
-            Visited::Went(z, act) => {
-                perform(act, w, bytes, depth, output, spans);
-                w = z;
-            }
-        }
-    }
-}
-
-// The page and the spans of plan `root` among the first `count` plan records, or the first limit that they pass.
-pub fn materialize(
-    capacity: Capacity,
-    plans: &[[u32; 3]],
-    count: usize,
-    texts: &[[u32; 3]],
-    bytes: &[u8],
-    visit: &mut [usize],
-    depth: &mut [usize],
-    output: &mut [u8],
-    spans: &mut [[u64; 4]],
-    root: PlanId,
-) -> Measured
-    requires { ⌜ Lent capacity (now visit) (now depth) (now output) (now spans) × Planned (now plans) count (now texts) (root .0) × InBytes (now texts) (now bytes) ⌝ }
-    ensures { λ r. ⌜ Materialized capacity (layout (now (plans .entry)) count (now (texts .entry)) (now (bytes .entry)) (root .0)) (now (output .entry)) (now (output .exit)) (now (spans .entry)) (now (spans .exit)) r ⌝ }
-{
-    let m = measure(capacity, &plans[..count], texts, visit, root);
-    match m {
-        Measured::Refused(e, needed, visits) => {
-            return Measured::Refused(e, needed, visits);
-        }
-        Measured::Page(length, number, visits) => {
-            write(
-                capacity,
-                &plans[..count],
-                texts,
-                bytes,
-                visit,
-                depth,
-                output,
-                spans,
-                root,
-            );
-            return Measured::Page(length, number, visits);
-        }
+        let s = turn(capacity, w, plans, texts, bytes, visit, depth, output);
+        let mark = s.mark;
+        mark_row(mark, spans);
+        w = s.walk;
     }
 }

@@ -1,5 +1,4 @@
-pub mod SpansFit
-pub mod Rights
 pub mod Deliveries
 pub mod Parts
+pub mod Second
 pub mod Shared

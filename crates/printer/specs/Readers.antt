@@ -17,7 +17,8 @@ use Rattle.solve_workspace.specs.declared.RenderOptions.{RenderOptions}
 use Rattle.render.specs.declared.order.Lengths.{Lengths}
 use Rattle.render.specs.Call.{settings}
 use Rattle.printer.specs.declared.Outcome.the-variants.{Page, Refused}
-use Rattle.printer.specs.Printed.{span-in, Printed}
+use Rattle.records.specs.Records.{span-in}
+use Rattle.printer.specs.Printed.{Printed}
 
 page-in : {file : List ℕ} {c : Settings} {r : Rendered} {k : Counts} → Promised file c (paged r k) → RulesPage file c r
 page-in (right-page p) = p

@@ -1,15 +1,18 @@
-// The public call in document 01's forms: the caller lends the record of counts and the list of span records.
+// The public call in document 01's forms: the caller lends the record of counts and the list of span records, and the materializer's second pass counts, opens and closes in them.
 ghost use mathlib.Core.Path.{_≡_};
-ghost use Prim.Native.Nat.{ℕ, _<_, _≤_};
-ghost use mathlib.Core.List.{[]};
-ghost use lib.ListN.{length, getD};
-ghost use Rattle.spans.specs.Spans.{RowFits, laid};
-ghost use Rattle.render.specs.Rendered.{counts-of, span-count};
 ghost use Rattle.render.specs.Call.{lengths};
-ghost use Rattle.printer.specs.Printed.{outcome, Within, Printed};
+ghost use Rattle.printer.specs.Printed.{Printed};
+ghost use Rattle.printer.specs.Delivered.{outcome, counts-first, start-of, start-words, Rooted, Deliverable, Delivered};
 use cost::ConsumerCost;
-use render::call::render_core;
-use render::page::Rendered;
+use materialize::Capacity;
+use materialize::Chosen;
+use materialize::Walk;
+use materialize::begin_walk;
+use plan::PlanId;
+use records::write_records;
+use render::call::render_plan;
+use render::page::Drafted;
+use render::page::capacity_of;
 use solve_workspace::Bounds;
 use solve_workspace::RenderOptions;
 use spans::AnnotationSpan;
@@ -28,17 +31,20 @@ pub enum Outcome {
     },
 }
 
-fn counts_of(a: Rendered) -> SolveStats
-    ensures { λ r. ⌜ r ≡ counts-of a ⌝ }
+// What the second pass begins with.
+struct Start {
+    capacity: Capacity,
+    chosen: Chosen,
+    walk: Walk,
+}
+
+// The counts before the second pass; a refusal has all of its own.
+fn counts_of(a: Drafted) -> SolveStats
+    ensures { λ r. ⌜ r ≡ counts-first a ⌝ }
 {
     match a {
-        Rendered::Page {
-            cost,
-            length,
-            spans,
-            stats,
-        } => stats,
-        Rendered::Refused {
+        Drafted::Page(d) => d.stats,
+        Drafted::Refused {
             number,
             needed,
             stats,
@@ -46,40 +52,19 @@ fn counts_of(a: Rendered) -> SolveStats
     }
 }
 
-// A refusal has no spans.
-fn span_count(a: Rendered) -> usize
-    ensures { λ r. ⌜ r ≡ span-count a ⌝ }
-{
-    match a {
-        Rendered::Page {
-            cost,
-            length,
-            spans,
-            stats,
-        } => spans,
-        Rendered::Refused {
-            number,
-            needed,
-            stats,
-        } => 0,
-    }
-}
-
-fn outcome_of(a: Rendered) -> Outcome
+fn outcome_of(a: Drafted) -> Outcome
     ensures { λ r. ⌜ r ≡ outcome a ⌝ }
 {
     match a {
-        Rendered::Page {
-            cost,
-            length,
-            spans,
-            stats,
-        } => Outcome::Page {
-            cost: cost,
-            length: length,
-            spans: spans,
-        },
-        Rendered::Refused {
+        Drafted::Page(d) => {
+            let cost = d.cost;
+            Outcome::Page {
+                cost: cost,
+                length: d.length,
+                spans: d.spans,
+            }
+        }
+        Drafted::Refused {
             number,
             needed,
             stats,
@@ -90,75 +75,82 @@ fn outcome_of(a: Rendered) -> Outcome
     }
 }
 
-// The call with spans as rows of working memory, for a caller that has so many span records: fewer than their size are refused by 1.
-fn render_within(
-    file: &[u8],
-    options: RenderOptions,
+// A page's plan is the one item of the visit stack; for a refusal there is none, so that the second pass does nothing.
+fn begin_page(a: Drafted, b: Bounds, visit: &mut [usize]) -> Start
+    requires { ⌜ Rooted a (now visit) ⌝ }
+    ensures { λ r. ⌜ (r ≡ start-of b a) × (now (visit .exit) ≡ start-words a (now (visit .entry))) ⌝ }
+{
+    let capacity = capacity_of(b);
+    match a {
+        Drafted::Page(d) => {
+            let root = d.root;
+            let number = root.0;
+            let walk = begin_walk(visit, PlanId(number));
+            Start {
+                capacity: capacity,
+                chosen: Chosen {
+                    root: root,
+                    plans: d.plans,
+                    texts: d.texts,
+                    bytes: d.bytes,
+                },
+                walk: walk,
+            }
+        }
+        Drafted::Refused {
+            number,
+            needed,
+            stats,
+        } => Start {
+            capacity: capacity,
+            chosen: Chosen {
+                root: PlanId(0),
+                plans: 0,
+                texts: 0,
+                bytes: 0,
+            },
+            walk: Walk {
+                top: 0,
+                depth: 0,
+                at: 0,
+                spans: 0,
+                visits: 0,
+            },
+        },
+    }
+}
+
+// The second half of a call: what was chosen and measured is written, in what the caller lends.
+fn finish(
+    a: Drafted,
     b: Bounds,
-    nodes: &mut [[u32; 8]],
-    edges: &mut [u32],
-    choices: &mut [u32],
-    texts: &mut [[u32; 3]],
-    bytes: &mut [u8],
-    tasks: &mut [[u32; 9]],
-    results: &mut [[u32; 2]],
-    pending: &mut [[u64; 7]],
-    index: &mut [u64],
-    entries: &mut [[u64; 6]],
-    kept: &mut [[u64; 6]],
-    frontier: &mut [u64],
-    plans: &mut [[u32; 3]],
+    texts: &[[u32; 3]],
+    bytes: &[u8],
+    plans: &[[u32; 3]],
     visit: &mut [usize],
     depth: &mut [usize],
     output: &mut [u8],
-    rows: &mut [[u64; 4]],
-    records: usize,
-) -> Rendered
-    ensures { λ r. ⌜ Within (now (file .entry)) options b (lengths (now (nodes .entry)) (now (edges .entry)) (now (choices .entry)) (now (texts .entry)) (now (bytes .entry)) (now (tasks .entry)) (now (results .entry)) (now (pending .entry)) (now (index .entry)) (now (entries .entry)) (now (kept .entry)) (now (frontier .entry)) (now (plans .entry)) (now (visit .entry)) (now (depth .entry)) (now (output .entry)) (now (rows .entry))) records (now (output .entry)) (now (output .exit)) (now (rows .entry)) (now (rows .exit)) r ⌝ }
-{
-    if records < b.spans as usize {
-        return Rendered::Refused {
-            number: 1,
-            needed: 0,
-            stats: SolveStats::ZERO,
-        };
-    }
-    render_core(
-        file,
-        options,
-        b,
-        nodes,
-        edges,
-        choices,
-        texts,
-        bytes,
-        tasks,
-        results,
-        pending,
-        index,
-        entries,
-        kept,
-        frontier,
-        plans,
-        visit,
-        depth,
-        output,
-        rows,
-    )
-}
-
-// An answer's counts and spans are set in what is lent for them.
-fn deliver(
-    a: Rendered,
-    rows: &[[u64; 4]],
     stats: &mut SolveStats,
     spans: &mut [AnnotationSpan],
 ) -> Outcome
-    requires { ⌜ (span-count a ≤ length (now rows)) × (span-count a ≤ length (now spans)) × ((k : ℕ) → k < span-count a → RowFits (getD (now rows) k [])) ⌝ }
-    ensures { λ r. ⌜ (r ≡ outcome a) × (now (stats .exit) ≡ counts-of a) × (now (spans .exit) ≡ laid (now (rows .entry)) (span-count a) (now (spans .entry))) ⌝ }
+    requires { ⌜ Deliverable b a (now plans) (now texts) (now bytes) (now visit) (now depth) (now output) (now spans) ⌝ }
+    ensures { λ r. ⌜ Delivered a (now (plans .entry)) (now (texts .entry)) (now (bytes .entry)) (now (output .entry)) (now (output .exit)) (now (spans .entry)) (now (spans .exit)) (now (stats .exit)) r ⌝ }
 {
     *stats = counts_of(a);
-    spans::replay_spans(rows, span_count(a), spans);
+    let s = begin_page(a, b, visit);
+    write_records(
+        s.capacity,
+        s.chosen,
+        s.walk,
+        plans,
+        texts,
+        bytes,
+        visit,
+        depth,
+        output,
+        stats,
+        spans,
+    );
     outcome_of(a)
 }
 
@@ -183,13 +175,12 @@ pub fn render(
     visit: &mut [usize],
     depth: &mut [usize],
     output: &mut [u8],
-    rows: &mut [[u64; 4]],
     stats: &mut SolveStats,
     spans: &mut [AnnotationSpan],
 ) -> Outcome
-    ensures { λ r. ⌜ Printed (now (file .entry)) options b (lengths (now (nodes .entry)) (now (edges .entry)) (now (choices .entry)) (now (texts .entry)) (now (bytes .entry)) (now (tasks .entry)) (now (results .entry)) (now (pending .entry)) (now (index .entry)) (now (entries .entry)) (now (kept .entry)) (now (frontier .entry)) (now (plans .entry)) (now (visit .entry)) (now (depth .entry)) (now (output .entry)) (now (rows .entry))) (now (output .entry)) (now (output .exit)) (now (spans .entry)) (now (spans .exit)) (now (stats .exit)) r ⌝ }
+    ensures { λ r. ⌜ Printed (now (file .entry)) options b (lengths (now (nodes .entry)) (now (edges .entry)) (now (choices .entry)) (now (texts .entry)) (now (bytes .entry)) (now (tasks .entry)) (now (results .entry)) (now (pending .entry)) (now (index .entry)) (now (entries .entry)) (now (kept .entry)) (now (frontier .entry)) (now (plans .entry)) (now (visit .entry)) (now (depth .entry)) (now (output .entry)) (now (spans .entry))) (now (output .entry)) (now (output .exit)) (now (spans .entry)) (now (spans .exit)) (now (stats .exit)) r ⌝ }
 {
-    let a = render_within(
+    let a = render_plan(
         file,
         options,
         b,
@@ -207,10 +198,20 @@ pub fn render(
         frontier,
         plans,
         visit,
-        depth,
-        output,
-        rows,
+        depth.len(),
+        output.len(),
         spans.len(),
     );
-    deliver(a, rows, stats, spans)
+    finish(
+        a,
+        b,
+        texts,
+        bytes,
+        plans,
+        visit,
+        depth,
+        output,
+        stats,
+        spans,
+    )
 }

@@ -1,7 +1,6 @@
 -- Laws for the answers by value.
 use mathlib.Core.Path.{_≡_, sym, ap, ap₂, _∙_}
 use Prim.Native.Nat.{ℕ}
-use Rattle.cost.specs.declared.ConsumerCost.{ConsumerCost}
 use Rattle.cost.specs.declared.Reason.{Reason}
 use Rattle.cost.specs.declared.Reason.the-variants.{Column, Indent, Overflow, Burden}
 use Rattle.machine.specs.Events.{number}
@@ -13,8 +12,11 @@ use Rattle.materialize.specs.Answer.{why-of}
 use Rattle.materialize.specs.declared.Exhausted.{Exhausted}
 use Rattle.materialize.specs.declared.Measured.{Measured}
 use Rattle.materialize.specs.declared.Measured.the-variants.{Page as Fitting, Refused as Lacking}
-use Rattle.render.specs.declared.page.Rendered.the-variants.{Page, Refused}
-use Rattle.render.specs.Rendered.{with-counts, shown}
+use Rattle.solve.specs.declared.SolvedCore.{SolvedCore}
+use Rattle.render.specs.declared.page.Draft.{Draft}
+use Rattle.render.specs.declared.page.Drafted.the-variants.{Page, Refused}
+use Rattle.render.specs.Rendered.{with-counts}
+use Rattle.render.specs.Drafts.{drafted}
 
 -- every domain refusal is 11
 pub domain-eleven : {w : Why} (r : Reason) → w ≡ Domain r → 11 ≡ number (reason w)
@@ -23,8 +25,11 @@ domain-eleven Indent e = ap (λ (x : Why). number (reason x)) (sym e)
 domain-eleven Overflow e = ap (λ (x : Why). number (reason x)) (sym e)
 domain-eleven Burden e = ap (λ (x : Why). number (reason x)) (sym e)
 
-pub show-page : (c : ConsumerCost) (k : SolveStats) {w : SolveStats} {m : Measured} {n s v : ℕ} → m ≡ Fitting n s v → w ≡ with-counts k v → Page c n s w ≡ shown c k m
-show-page c k {w} {m} {n} {s} {v} e f = ap (λ (x : SolveStats). Page c n s x) f ∙ ap (λ (x : Measured). shown c k x) (sym e)
+abbrev drawing : SolvedCore → ℕ → ℕ → ℕ → ℕ → ℕ → SolveStats → Draft
+drawing c x y n s v k = record { cost = c .cost; length = n; spans = s; visits = v; stats = k; root = c .root; plans = c .plans; texts = x; bytes = y }
 
-pub show-refused : (c : ConsumerCost) (k : SolveStats) {w : SolveStats} {m : Measured} {q : Exhausted} {n x v : ℕ} → m ≡ Lacking q x v → w ≡ with-counts k v → n ≡ number (why-of q) → Refused n x w ≡ shown c k m
-show-refused c k {w} {m} {q} {n} {x} {v} e f g = ap₂ (λ (i : ℕ) (y : SolveStats). Refused i x y) g f ∙ ap (λ (y : Measured). shown c k y) (sym e)
+pub draft-page : (c : SolvedCore) (x y : ℕ) {w : SolveStats} {m : Measured} {n s v : ℕ} → m ≡ Fitting n s v → w ≡ with-counts (c .stats) 0 → Page (drawing c x y n s v w) ≡ drafted c x y m
+draft-page c x y {w} {m} {n} {s} {v} e f = ap (λ (k : SolveStats). Page (drawing c x y n s v k)) f ∙ ap (λ (k : Measured). drafted c x y k) (sym e)
+
+pub draft-refused : (c : SolvedCore) (x y : ℕ) {w : SolveStats} {m : Measured} {q : Exhausted} {n z v : ℕ} → m ≡ Lacking q z v → w ≡ with-counts (c .stats) v → n ≡ number (why-of q) → Refused n z w ≡ drafted c x y m
+draft-refused c x y {w} {m} {q} {n} {z} {v} e f g = ap₂ (λ (i : ℕ) (k : SolveStats). Refused i z k) g f ∙ ap (λ (k : Measured). drafted c x y k) (sym e)

@@ -1,6 +1,7 @@
 pub mod Ordered
 pub mod Quiet
 pub mod Answered
+pub mod Halves
 pub mod Pages
 pub mod Stages
 pub mod Readiness

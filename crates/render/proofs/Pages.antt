@@ -2,27 +2,35 @@
 use mathlib.Core.Path.{_≡_, refl, sym, ap, ap₂, _∙_, subst}
 use mathlib.Core.Option.{Option, none, some}
 use mathlib.Core.List.{List, [], _∷_, _++_, map}
-use Prim.Native.Nat.{ℕ, _<_}
+use Prim.Native.Nat.{ℕ, _≤_, _<_}
 use native.Mathlib.Omega.{arith}
 use lib.ListN.{length, take, drop, getD, length-append, length-drop, length-map, List·getD-append}
-use lib.Seq.{take-append-seam}
+use lib.Seq.{take-append-seam, take-length}
 use Rattle.cost.specs.Value.{value}
 use Rattle.layout.specs.Layout.{Plan, page}
 use Rattle.layout.specs.Spans.{Span, spans}
-use Rattle.machine.specs.Events.{ret, _>>_, Out, run}
+use Rattle.machine.specs.Events.{number, ret, _>>_, Out, run}
 use Rattle.machine.specs.Programs.{and-then, run-bind}
 use Rattle.machine.specs.Materializer.{Rendered as Sheet, materialize, rendered}
 use Rattle.machine.specs.Answer.{paged, answer-of}
 use Rattle.solve_workspace.specs.declared.Bounds.{Bounds}
 use Rattle.solve_workspace.specs.Meets.{limits, tally}
 use Rattle.materialize.specs.Rows.{Row, row-of, parent-word, span-rows, Fits}
-use Rattle.materialize.specs.Answer.{Agrees, Small, Lent, Materialized, told, over}
+use Rattle.materialize.specs.Texts.{layout, InBytes, Planned}
+use Rattle.materialize.specs.Answer.{why-of, with-visits, told, over, Small, Lent}
+use Rattle.materialize.specs.Walks.{ran, plan, Answered}
+use Rattle.materialize.specs.Writes.{Passes}
 use Rattle.materialize.specs.declared.Capacity.{Capacity}
+use Rattle.materialize.specs.declared.Exhausted.{Exhausted}
 use Rattle.materialize.specs.declared.Measured.{Measured}
 use Rattle.materialize.specs.declared.Measured.the-variants.{Page as Fitting, Refused as Lacking}
 use Rattle.solve.specs.declared.SolvedCore.{SolvedCore}
-use Rattle.render.specs.declared.page.Rendered.{Rendered}
-use Rattle.render.specs.Rendered.{parent-of, span-of, Front, with-counts, shown, capacity, PageRoom, Paged}
+use Rattle.solve.specs.Outcome.{Arranged}
+use Rattle.render.specs.declared.page.Rendered.the-variants.{Page as Printed, Refused as Denied}
+use Rattle.render.specs.declared.page.Drafted.{Drafted}
+use Rattle.render.specs.Rendered.{parent-of, span-of, Front, with-counts}
+use Rattle.render.specs.Drafts.{capacity, Promise, Pledged, Half, drafted, Paged}
+use Rattle.render.proofs.Halves.{cut-planned, cut-plan}
 
 -- ---- spans are read back from their rows
 
@@ -57,52 +65,104 @@ unaltered was is e = record { within = omega arith; past = e }
 
 -- ---- the materializer
 
-pub page-lent : {b : Bounds} (q : Capacity) {st he ou : List ℕ} {ro : List Row} → q ≡ capacity b → Small q → PageRoom b st he ou ro → Lent q st he ou ro
-page-lent {b} q e z r = record {
-  small = z;
-  visit-lent = let g : q .visit ≡ b .visit = ap (λ (x : Capacity). x .visit) e in omega (arith, g, r .visit-lent);
-  depth-lent = let g : q .depth ≡ b .depth = ap (λ (x : Capacity). x .depth) e in omega (arith, g, r .depth-lent);
-  output-lent = let g : q .output ≡ b .output = ap (λ (x : Capacity). x .output) e in omega (arith, g, r .output-lent);
-  spans-lent = let g : q .spans ≡ b .spans = ap (λ (x : Capacity). x .spans) e in omega (arith, g, r .spans-lent);
-}
+pub lent-at : (b : Bounds) (q : Capacity) {st he ou : List ℕ} {ro : List Row} → q ≡ capacity b → Lent (capacity b) st he ou ro → Lent q st he ou ro
+lent-at b q {st} {he} {ou} {ro} e h = subst (λ (x : Capacity). Lent x st he ou ro) (sym e) h
 
-module _ (b : Bounds) (c : SolvedCore) (p : Plan) (out₀ out : List ℕ) (rows₀ rows : List Row) where
+pub visit-at : (b : Bounds) (q : Capacity) {n : ℕ} → q ≡ capacity b → b .visit ≤ n → q .visit ≤ n
+visit-at b q e h = let g : q .visit ≡ b .visit = ap (λ (x : Capacity). x .visit) e in omega (arith, g, h)
+
+pub passes-at : (b : Bounds) (q : Capacity) {p : Plan} → q ≡ capacity b → Passes (capacity b) p → Passes q p
+passes-at b q {p} e h = subst (λ (x : Capacity). Passes x p) (sym e) h
+
+module _ (b : Bounds) (c : SolvedCore) (z : c .stats .visits ≡ 0) (p : Plan) where
   abbrev sheet : Sheet
   sheet = rendered p (value (c .cost))
 
-  agrees : Agrees (capacity b) (limits b)
-  agrees = record { visit = refl; depth = refl; output = refl; spans = refl; visit-limit = refl }
+  -- what the first pass comes to, the machine comes to
+  ended : (m : Measured) → Answered (capacity b) p m → told (tally (c .stats)) m ≡ run (limits b) (tally (c .stats)) (materialize p)
+  unfolding ran
+  ended m h = h .answer (record { bounds = limits b; counts = tally (c .stats) }) ∙ ap (λ (v : ℕ). run (limits b) (with-visits (tally (c .stats)) v) (materialize p)) (sym z)
 
-  after : (o : Out (Unit {0})) → o ≡ run (limits b) (tally (c .stats)) (materialize p)
-      → answer-of (and-then (limits b) o (λ _. ret sheet)) ≡ answer-of (run (limits b) (tally (c .stats)) (materialize p >> ret sheet))
-  after o e = ap answer-of (ap (λ (x : Out (Unit {0})). and-then (limits b) x (λ _. ret sheet)) e ∙ sym (run-bind (limits b) (tally (c .stats)) (materialize p) (λ _. ret sheet)))
+  answered : (m : Measured) → Answered (capacity b) p m → answer-of (and-then (limits b) (told (tally (c .stats)) m) (λ _. ret sheet)) ≡ answer-of (run (limits b) (tally (c .stats)) (materialize p >> ret sheet))
+  answered m h = ap answer-of (ap (λ (x : Out (Unit {0})). and-then (limits b) x (λ _. ret sheet)) (ended m h) ∙ sym (run-bind (limits b) (tally (c .stats)) (materialize p) (λ _. ret sheet)))
 
-  made : (m : Measured) → Materialized (capacity b) p out₀ out rows₀ rows m → c .stats .visits ≡ 0 → length out ≡ length out₀ → length rows ≡ length rows₀
-      → Paged b c p out₀ out rows₀ rows (shown (c .cost) (c .stats) m)
-  made (Fitting n k v) M z lo lr =
-      let ke : k ≡ length (span-rows p) = M .sized .1 ∙ sym (length-map (spans p) row-of) in
-      let x : take n out ≡ page p = taken n (page p) out₀ out (M .sized .0) (M .output-is) in
-      let y : map span-of (take k rows) ≡ spans p = ap (λ (l : List Row). map span-of l) (taken k (span-rows p) rows₀ rows ke (M .spans-is)) ∙ spans-back (spans p) in
-      record {
-        is = ap₂ (λ (x : List ℕ) (y : List Span). paged (record { bytes = x; spans = y; cost = value (c .cost) }) (tally (with-counts (c .stats) v))) x y ∙ after (told (tally (c .stats)) (Fitting n k v)) (M .answer (limits b) (tally (c .stats)) agrees z);
-        stands = record {
-          output-is = front n (page p) out₀ out (M .sized .0) (M .output-is) lo;
-          rows-are = front k (span-rows p) rows₀ rows ke (M .spans-is) lr;
-          fitting = λ j h.
-              let g : j < length (span-rows p) = omega (arith, h, ke) in
-              let w : getD rows j [] ≡ getD (span-rows p) j [] = ap (λ (l : List Row). getD l j []) (M .spans-is) ∙ List·getD-append (span-rows p) (drop (length (span-rows p)) rows₀) [] j g in
-              subst (λ (r : Row). Fits r) (sym w) (M .fitting j g);
-          no-fit-checks = refl;
+  -- a size or a limit that is passed
+  lacking : (e : Exhausted) (needed v : ℕ) → Answered (capacity b) p (Lacking e needed v) → (out : List ℕ) (rows : List Row) → Paged b c p out out rows rows (Denied (number (why-of e)) needed (with-counts (c .stats) v))
+  lacking e needed v h out rows = record {
+    is = answered (Lacking e needed v) h;
+    stands = record { output-is = unaltered out out refl; rows-are = unaltered rows rows refl; fitting = λ j k. absurd (omega (arith, k)); no-fit-checks = refl };
+  }
+
+  -- a page, once it is written
+  fitting : (n k v : ℕ) → Answered (capacity b) p (Fitting n k v) → Pledged (Paged b c p) p (Printed (c .cost) n k (with-counts (c .stats) v))
+  fitting n k v h = record {
+    by = λ out₀ out rows₀ rows lo lr w.
+        let ke : k ≡ length (span-rows p) = h .sized .1 ∙ sym (length-map (spans p) row-of) in
+        let x : take n out ≡ page p = taken n (page p) out₀ out (h .sized .0) (w .output-is) in
+        let y : map span-of (take k rows) ≡ spans p = ap (λ (l : List Row). map span-of l) (taken k (span-rows p) rows₀ rows ke (w .spans-is)) ∙ spans-back (spans p) in
+        record {
+          is = ap₂ (λ (x : List ℕ) (y : List Span). paged (record { bytes = x; spans = y; cost = value (c .cost) }) (tally (with-counts (c .stats) v))) x y ∙ answered (Fitting n k v) h;
+          stands = record {
+            output-is = front n (page p) out₀ out (h .sized .0) (w .output-is) lo;
+            rows-are = front k (span-rows p) rows₀ rows ke (w .spans-is) lr;
+            fitting = λ j i.
+                let g : j < length (span-rows p) = omega (arith, i, ke) in
+                let f : getD rows j [] ≡ getD (span-rows p) j [] = ap (λ (l : List Row). getD l j []) (w .spans-is) ∙ List·getD-append (span-rows p) (drop (length (span-rows p)) rows₀) [] j g in
+                subst (λ (r : Row). Fits r) (sym f) (w .fits j g);
+            no-fit-checks = refl;
+          };
         };
-      }
-  made (Lacking e needed v) M z lo lr =
-      record {
-        is = after (told (tally (c .stats)) (Lacking e needed v)) (M .answer (limits b) (tally (c .stats)) agrees z);
-        stands = record { output-is = unaltered out₀ out (M .output-is); rows-are = unaltered rows₀ rows (M .spans-is); fitting = λ j h. absurd (omega (arith, h)); no-fit-checks = refl };
-      }
+  }
 
-  pub page-made : (q : Capacity) → q ≡ capacity b → (m : Measured) → Materialized q p out₀ out rows₀ rows m → c .stats .visits ≡ 0 → length out ≡ length out₀ → length rows ≡ length rows₀
-      → (r : Rendered) → r ≡ shown (c .cost) (c .stats) m → Paged b c p out₀ out rows₀ rows r
-  page-made q e m M z lo lr r f =
-      subst (λ (x : Rendered). Paged b c p out₀ out rows₀ rows x) (sym f)
-      (made m (subst (λ (x : Capacity). Materialized x p out₀ out rows₀ rows m) e M) z lo lr)
+-- ---- what is chosen, once it is measured
+
+module _ (b : Bounds) (c : SolvedCore) (P X : List Row) (B : List ℕ) (a : Arranged (length X) c P) (i : InBytes X B) (z : c .stats .visits ≡ 0) where
+  abbrev root : ℕ
+  root = c .root .0
+
+  abbrev goal : Promise
+  goal = Paged b c (layout P (c .plans) X B root)
+
+  abbrev cut : Plan
+  cut = plan (take (c .plans) P) X B root
+
+  arranged : Planned P (c .plans) X root
+  arranged = record { lent = a .lent; few = a .few; ranked = a .ranked; rooted = a .rooted }
+
+  goal-is : cut ≡ layout P (c .plans) X B root
+  goal-is = cut-plan P (c .plans) X root arranged B
+
+  pub planned : Planned (take (c .plans) P) (length (take (c .plans) P)) X root
+  planned = cut-planned P (c .plans) X root arranged
+
+  -- all texts and all bytes
+  whole : (K : List Row → List ℕ → Type 0) → K X B → K (take (length X) X) (take (length B) B)
+  whole K k = subst (λ (l : List ℕ). K (take (length X) X) l) (sym (take-length B)) (subst (λ (l : List Row). K l B) (sym (take-length X)) k)
+
+  half-of : Small (capacity b) → (m : Measured) → Answered (capacity b) cut m → Half goal b P X B (drafted c (length X) (length B) m)
+  half-of small (Lacking e needed v) h = record {
+    by = λ out rows. subst (λ (p : Plan). Paged b c p out out rows rows (Denied (number (why-of e)) needed (with-counts (c .stats) v))) goal-is (lacking b c z cut e needed v h out rows);
+  }
+  half-of small (Fitting n k v) h = record {
+    by = (
+      record {
+        plans-in = a .lent;
+        texts-in = omega arith;
+        bytes-in = omega arith;
+        planned = whole (λ (X : List Row) (B : List ℕ). Planned (take (c .plans) P) (length (take (c .plans) P)) X root) planned;
+        inside = whole (λ (X : List Row) (B : List ℕ). InBytes X B) i;
+        small = small;
+        measured = whole (λ (X : List Row) (B : List ℕ). Answered (capacity b) (plan (take (c .plans) P) X B root) (Fitting n k v)) h;
+        unvisited = refl;
+        no-fit-checks = refl;
+      },
+      whole (λ (X : List Row) (B : List ℕ). Pledged goal (plan (take (c .plans) P) X B root) (Printed (c .cost) n k (with-counts (c .stats) v)))
+          (subst (λ (p : Plan). Pledged (Paged b c p) cut (Printed (c .cost) n k (with-counts (c .stats) v))) goal-is (fitting b c z cut n k v h)),
+    );
+  }
+
+  pub page-half : (q : Capacity) → q ≡ capacity b → Small q → (m : Measured) → ((bytes : List ℕ) → InBytes X bytes → Answered q (plan (take (c .plans) P) X bytes root) m)
+      → (r : Drafted) → r ≡ drafted c (length X) (length B) m → Half goal b P X B r
+  page-half q e small m h r f =
+      subst (λ (x : Drafted). Half goal b P X B x) (sym f)
+      (half-of (subst Small e small) m (subst (λ (x : Capacity). Answered x cut m) e (h B i)))

@@ -1,5 +1,5 @@
 -- Laws for the whole call: from the right answer, and what stands in output and span rows, all that a call promises.
-use mathlib.Core.Path.{_≡_, refl, subst}
+use mathlib.Core.Path.{_≡_, refl, sym, subst}
 use mathlib.Core.List.{List}
 use Prim.Native.Nat.{ℕ, _≤_}
 use native.Mathlib.Omega.{arith}
@@ -21,14 +21,20 @@ use Rattle.solve_workspace.specs.declared.RenderOptions.{RenderOptions}
 use Rattle.solve_workspace.specs.Meets.{limits}
 use Rattle.solve_workspace.specs.Reading.{rules, prepared}
 use Rattle.materialize.specs.Rows.{Row}
+use Rattle.materialize.specs.Writes.{Written}
 use Rattle.solve.specs.Accepted.{MemoRoom}
 use Rattle.render.specs.declared.page.Rendered.{Rendered}
-use Rattle.render.specs.declared.page.Rendered.the-variants.{Refused}
+use Rattle.render.specs.declared.page.Rendered.the-variants.{Refused as Denied}
+use Rattle.render.specs.declared.page.Draft.{Draft}
+use Rattle.render.specs.declared.page.Drafted.{Drafted}
+use Rattle.render.specs.declared.page.Drafted.the-variants.{Page, Refused}
 use Rattle.render.specs.declared.order.Lengths.{Lengths}
 use Rattle.render.specs.Order.{InOrder}
 use Rattle.render.specs.Rendered.{meant, Stands}
-use Rattle.render.specs.Call.{settings, Rendering, Laid, MemoHolding, tables-held}
+use Rattle.render.specs.Drafts.{chosen, page-of, Half, Writable}
+use Rattle.render.specs.Call.{settings, Rendering, Drafting, Laid, MemoHolding, tables-held}
 use Rattle.render.proofs.Ordered.{slots-single}
+use Rattle.render.proofs.Halves.{half-refused, half-drawn, half-pledged, half-map}
 use Rattle.render.proofs.Pages.{unaltered}
 use Rattle.render.proofs.FromFile.{laid-answers, refused-answers, order-answers}
 
@@ -57,9 +63,9 @@ none-counted = record {
   visits = 0;
 }
 
-module _ (file : List ℕ) (o : RenderOptions) (b : Bounds) (l : Lengths) (out₀ out : List ℕ) (rows₀ rows : List Row) (z : Bytes file) where
-  rendering : (r : Rendered) → Answers (InOrder o b l) file (settings o) (limits b) (meant r out rows) → Stands r out₀ out rows₀ rows → Rendering file o b l out₀ out rows₀ rows r
-  rendering r a s = record {
+module _ (file : List ℕ) (o : RenderOptions) (b : Bounds) (l : Lengths) (z : Bytes file) where
+  rendering : (out₀ out : List ℕ) (rows₀ rows : List Row) (r : Rendered) → Answers (InOrder o b l) file (settings o) (limits b) (meant r out rows) → Stands r out₀ out rows₀ rows → Rendering file o b l out₀ out rows₀ rows r
+  rendering out₀ out rows₀ rows r a s = record {
     answers = a;
     stands = s;
     promised = promised z a;
@@ -68,21 +74,56 @@ module _ (file : List ℕ) (o : RenderOptions) (b : Bounds) (l : Lengths) (out�
 
   -- ---- a refusal before the solver begins
 
-  quiet : (n : ℕ) → out ≡ out₀ → rows ≡ rows₀ → Stands (Refused n 0 none-counted) out₀ out rows₀ rows
-  quiet n p q = record { output-is = unaltered out₀ out p; rows-are = unaltered rows₀ rows q; fitting = λ j h. absurd (omega (arith, h)); no-fit-checks = refl }
+  refused-half : (n : ℕ) → Answers (InOrder o b l) file (settings o) (limits b) (refused n 0 no-counts) → {P X : List Row} {B : List ℕ} → Half (Rendering file o b l) b P X B (Refused n 0 none-counted)
+  refused-half n a = record {
+    by = λ out rows.
+        rendering out out rows rows (Denied n 0 none-counted) a
+        (record { output-is = unaltered out out refl; rows-are = unaltered rows rows refl; fitting = λ j h. absurd (omega (arith, h)); no-fit-checks = refl });
+  }
 
-  refused-rendering : (n : ℕ) → Answers (InOrder o b l) file (settings o) (limits b) (refused n 0 no-counts) → out ≡ out₀ → rows ≡ rows₀ → Rendering file o b l out₀ out rows₀ rows (Refused n 0 none-counted)
-  refused-rendering n a p q = rendering (Refused n 0 none-counted) a (quiet n p q)
-
-  module _ {lent : Type 0} {nodes : List (List ℕ)} {edges choices : List ℕ} {texts : List (List ℕ)} {bytes : List ℕ} {a : FileAnswer} (i : InOrder o b l) (g : Reads file lent nodes edges choices texts bytes a) where
+  module _ {lent : Type 0} {nodes : List (List ℕ)} {edges choices : List ℕ} {texts : List (List ℕ)} {bytes : List ℕ} {a : FileAnswer} (i : InOrder o b l) (g : Reads file lent nodes edges choices texts bytes a) {P X : List Row} {B : List ℕ} where
     -- a file that the reader refuses
-    pub file-rendering : lent → (n : ℕ) → a ≡ FileRefused n → out ≡ out₀ → rows ≡ rows₀ → Rendering file o b l out₀ out rows₀ rows (Refused n 0 none-counted)
-    file-rendering h n e p q = refused-rendering n (refused-answers file lent nodes edges choices texts bytes i g h n e) p q
+    pub file-half : lent → (n : ℕ) → a ≡ FileRefused n → Half (Rendering file o b l) b P X B (Refused n 0 none-counted)
+    file-half h n e = refused-half n (refused-answers file lent nodes edges choices texts bytes i g h n e)
 
     -- a file that it accepts
-    pub laid-rendering : (n : Counts) → a ≡ Accepted n → (r : Rendered) → Laid b (rules o) (prepared (tables-held n nodes edges choices texts bytes)) out₀ out rows₀ rows r → Rendering file o b l out₀ out rows₀ rows r
-    laid-rendering n e r d = rendering r (laid-answers file lent nodes edges choices texts bytes i g n e d) (d .stands)
+    pub laid-half : (n : Counts) → a ≡ Accepted n → (r : Drafted) → Half (Laid b (rules o) (prepared (tables-held n nodes edges choices texts bytes))) b P X B r → Half (Rendering file o b l) b P X B r
+    laid-half n e r h = half-map r (λ out₀ out rows₀ rows x d. rendering out₀ out rows₀ rows x (laid-answers file lent nodes edges choices texts bytes i g n e d) (d .stands)) h
 
   -- a call that is not in order
-  pub order-rendering : (InOrder o b l → ⊥) → out ≡ out₀ → rows ≡ rows₀ → Rendering file o b l out₀ out rows₀ rows (Refused 1 0 none-counted)
-  order-rendering h p q = refused-rendering 1 (order-answers file h) p q
+  pub order-half : (InOrder o b l → ⊥) → {P X : List Row} {B : List ℕ} → Half (Rendering file o b l) b P X B (Refused 1 0 none-counted)
+  order-half h = refused-half 1 (order-answers file h)
+
+-- ---- the first half, and what comes after it
+
+module _ {file : List ℕ} {o : RenderOptions} {b : Bounds} {l : Lengths} {P X : List Row} {B : List ℕ} where
+  pub order-drafting : Bytes file → (InOrder o b l → ⊥) → Drafting file o b l P X B (Refused 1 0 none-counted)
+  order-drafting z h = record { half = order-half file o b l z h; lent = λ d e. let z : _≡_ {A = ℕ} 0 1 = cc in absurd (omega arith) }
+
+  pub lent-drafting : (r : Drafted) → InOrder o b l → Half (Rendering file o b l) b P X B r → Drafting file o b l P X B r
+  lent-drafting r i h = record { half = h; lent = λ d e. i .page }
+
+  -- memory is as long as the sizes say
+  pub writable : (r : Drafted) → Drafting file o b l P X B r → {st he ou : List ℕ} {ro : List Row} → length st ≡ l .visit → length he ≡ l .depth → length ou ≡ l .output → length ro ≡ l .spans
+      → Writable b P X B st he ou ro r
+  writable r D v h u s = record {
+    drawn = λ d e. half-drawn r (D .half) e;
+    lent = λ d e. let p = D .lent d e in record {
+      small = half-drawn r (D .half) e .small;
+      visit-lent = omega (arith, p .visit, v);
+      depth-lent = omega (arith, p .depth, h);
+      output-lent = omega (arith, p .output, u);
+      spans-lent = omega (arith, p .spans, s);
+    };
+  }
+
+  module _ (r : Drafted) (h : Half (Rendering file o b l) b P X B r) where
+    pub refused-rendering : {n x : ℕ} {k : SolveStats} → r ≡ Refused n x k → (out₀ out : List ℕ) (rows₀ rows : List Row) → out ≡ out₀ → rows ≡ rows₀ → Rendering file o b l out₀ out rows₀ rows (Denied n x k)
+    refused-rendering {n} {x} {k} e out₀ out rows₀ rows p q =
+        subst (λ (y : List ℕ). Rendering file o b l out₀ y rows₀ rows (Denied n x k)) (sym p)
+        (subst (λ (y : List Row). Rendering file o b l out₀ out₀ rows₀ y (Denied n x k)) (sym q) (half-refused r h e out₀ rows₀))
+
+    pub written-rendering : {d : Draft} → r ≡ Page d → (out₀ out : List ℕ) (rows₀ rows : List Row) → length out ≡ length out₀ → length rows ≡ length rows₀
+        → (a : Rendered) → a ≡ page-of d → Written (chosen d P X B) out₀ out rows₀ rows → Rendering file o b l out₀ out rows₀ rows a
+    written-rendering e out₀ out rows₀ rows lo lr a f w =
+        subst (λ (y : Rendered). Rendering file o b l out₀ out rows₀ rows y) (sym f) (half-pledged r h e .by out₀ out rows₀ rows lo lr w)

@@ -30,9 +30,10 @@ use Rattle.solve.specs.declared.SolvedCore.{SolvedCore}
 use Rattle.solve.specs.declared.Solution.{Solution}
 use Rattle.solve.specs.declared.Solution.the-variants.{Found, Refused}
 use Rattle.solve.specs.Outcome.{outcome, Arranged, Plans}
-use Rattle.render.specs.declared.page.Rendered.{Rendered}
-use Rattle.render.specs.Rendered.{refusal, Paged}
+use Rattle.render.specs.declared.page.Drafted.{Drafted}
+use Rattle.render.specs.Drafts.{Half, refusal, Paged}
 use Rattle.render.specs.Call.{Laid}
+use Rattle.render.proofs.Halves.{half-map}
 use Rattle.render.proofs.Pages.{unaltered}
 use Rattle.render.proofs.Quiet.{unvisited}
 
@@ -76,22 +77,26 @@ module _ (b : Bounds) (R : Rules) (t : Tables) (plans : List Row) where
   pub found-unvisited : (a : Solution) (c : SolvedCore) → a ≡ Found c → run (limits b) no-counts (solve R P) ≡ outcome a plans → c .stats .visits ≡ 0
   found-unvisited a c e s = unvisited R P (limits b) no-counts (s ∙ ap (λ (x : Solution). outcome x plans) e)
 
-  module _ (out₀ out : List ℕ) (rows₀ rows : List Row) where
-    -- a refusal of the solver
-    pub laid-refused : (a : Solution) (why : Why) (needed : ℕ) (k : SolveStats) → a ≡ Refused why needed k → run (limits b) no-counts (solve R P) ≡ outcome a plans
-        → out ≡ out₀ → rows ≡ rows₀ → (r : Rendered) → r ≡ refusal why needed k → Laid b R P out₀ out rows₀ rows r
-    laid-refused a why needed k e s oe re r f =
-        subst (λ (x : Rendered). Laid b R P out₀ out rows₀ rows x) (sym f)
-        (record {
+  -- a refusal of the solver
+  pub laid-refused : (a : Solution) (why : Why) (needed : ℕ) (k : SolveStats) → a ≡ Refused why needed k → run (limits b) no-counts (solve R P) ≡ outcome a plans
+      → {L X : List Row} {B : List ℕ} (r : Drafted) → r ≡ refusal why needed k → Half (Laid b R P) b L X B r
+  laid-refused a why needed k e s {L} {X} {B} r f =
+      subst (λ (x : Drafted). Half (Laid b R P) b L X B x) (sym f)
+      (record {
+        by = λ out rows. record {
           is = sym (after (outcome (Refused why needed k) plans) (s ∙ ap (λ (x : Solution). outcome x plans) e));
-          stands = record { output-is = unaltered out₀ out oe; rows-are = unaltered rows₀ rows re; fitting = λ j h. absurd (omega (arith, h)); no-fit-checks = refl };
-        })
+          stands = record { output-is = unaltered out out refl; rows-are = unaltered rows rows refl; fitting = λ j h. absurd (omega (arith, h)); no-fit-checks = refl };
+        };
+      })
 
-    -- the page of what is found
-    pub laid-page : (a : Solution) (c : SolvedCore) → a ≡ Found c → run (limits b) no-counts (solve R P) ≡ outcome a plans
-        → (r : Rendered) → Paged b c (layout plans (c .plans) (t .texts) (t .bytes) (c .root .0)) out₀ out rows₀ rows r → Laid b R P out₀ out rows₀ rows r
-    laid-page a c e s r q = record {
-      is = q .is ∙ ap (λ (p : Plan). answer-of (run (limits b) (tally (c .stats)) (materialize p >> ret (rendered p (value (c .cost)))))) (sym (plan-same (P .table) (arena plans (c .plans)) (c .root .0)))
-          ∙ sym (after (outcome (Found c) plans) (s ∙ ap (λ (x : Solution). outcome x plans) e));
-      stands = q .stands;
-    }
+  -- the page of what is found
+  pub laid-page : (a : Solution) (c : SolvedCore) → a ≡ Found c → run (limits b) no-counts (solve R P) ≡ outcome a plans
+      → {L X : List Row} {B : List ℕ} (r : Drafted) → Half (Paged b c (layout plans (c .plans) (t .texts) (t .bytes) (c .root .0))) b L X B r → Half (Laid b R P) b L X B r
+  laid-page a c e s r h =
+      half-map r
+      (λ out₀ out rows₀ rows x q. record {
+        is = q .is ∙ ap (λ (p : Plan). answer-of (run (limits b) (tally (c .stats)) (materialize p >> ret (rendered p (value (c .cost)))))) (sym (plan-same (P .table) (arena plans (c .plans)) (c .root .0)))
+            ∙ sym (after (outcome (Found c) plans) (s ∙ ap (λ (x : Solution). outcome x plans) e));
+        stands = q .stands;
+      })
+      h

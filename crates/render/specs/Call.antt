@@ -25,9 +25,13 @@ use Rattle.materialize.specs.Texts.{InBytes}
 use Rattle.solve.specs.Accepted.{Accepted}
 use Rattle.solve.specs.Numbered.{TextsBelow}
 use Rattle.render.specs.declared.page.Rendered.{Rendered}
+use Rattle.render.specs.declared.page.Draft.{Draft}
+use Rattle.render.specs.declared.page.Drafted.{Drafted}
+use Rattle.render.specs.declared.page.Drafted.the-variants.{Page as Drawing}
 use Rattle.render.specs.declared.order.Lengths.{Lengths}
-use Rattle.render.specs.Order.{InOrder}
+use Rattle.render.specs.Order.{PageLent, InOrder}
 use Rattle.render.specs.Rendered.{meant, Stands}
+use Rattle.render.specs.Drafts.{Half}
 
 abbrev pub settings : RenderOptions → Settings
 settings o = record { width = o .width; newline-cost = o .«newline_cost»; policy = o .policy }
@@ -42,6 +46,11 @@ pub record Rendering (file : List ℕ) (o : RenderOptions) (b : Bounds) (l : Len
   pub promised : Promised file (settings o) (meant r output rows)
   pub same-page : (p : Page) (k : Tally) → meant r output rows ≡ paged p k → (d : Bounds) (m : Lengths) → Larger (limits b) (limits d) → InOrder o d m
       → (a : Answer) → Answers (InOrder o d m) file (settings o) (limits d) a → a ≡ paged p k
+
+-- its first half, with plan records, texts and their bytes as they stand after it. Where there is a page, the memory that it is written with is lent
+pub record Drafting (file : List ℕ) (o : RenderOptions) (b : Bounds) (l : Lengths) (plans texts : List Row) (bytes : List ℕ) (r : Drafted) : Type 0 where
+  pub half : Half (Rendering file o b l) b plans texts bytes r
+  pub lent : (d : Draft) → r ≡ Drawing d → PageLent b l
 
 -- ---- its parts
 
@@ -72,8 +81,9 @@ pub record MemoHolding (b : Bounds) (ss : List ℕ) (es : List Row) : Type 0 whe
   pub is : SlotsFor (b .memo) slots-for
   pub slots-in : slots-for ≤ length ss
 
-abbrev pub lengths : List (List ℕ) → List ℕ → List ℕ → List (List ℕ) → List ℕ → List Row → List Row → List Row → List ℕ → List Row → List Row → List ℕ → List Row → List ℕ → List ℕ → List ℕ → List Row → Lengths
-lengths nodes edges choices texts bytes tasks results pending index entries kept frontier plans visit depth output spans = record {
+-- how long what is lent is; of depth, output and spans this takes the lengths alone
+abbrev pub lengths-with : List (List ℕ) → List ℕ → List ℕ → List (List ℕ) → List ℕ → List Row → List Row → List Row → List ℕ → List Row → List Row → List ℕ → List Row → List ℕ → ℕ → ℕ → ℕ → Lengths
+lengths-with nodes edges choices texts bytes tasks results pending index entries kept frontier plans visit depth output spans = record {
   nodes = length nodes;
   edges = length edges;
   choices = length choices;
@@ -88,7 +98,10 @@ lengths nodes edges choices texts bytes tasks results pending index entries kept
   frontier = length frontier;
   plans = length plans;
   visit = length visit;
-  depth = length depth;
-  output = length output;
-  spans = length spans;
+  depth = depth;
+  output = output;
+  spans = spans;
 }
+
+abbrev pub lengths : {A : Type 0} → List (List ℕ) → List ℕ → List ℕ → List (List ℕ) → List ℕ → List Row → List Row → List Row → List ℕ → List Row → List Row → List ℕ → List Row → List ℕ → List ℕ → List ℕ → List A → Lengths
+lengths nodes edges choices texts bytes tasks results pending index entries kept frontier plans visit depth output spans = lengths-with nodes edges choices texts bytes tasks results pending index entries kept frontier plans visit (length depth) (length output) (length spans)

@@ -1,3 +1,4 @@
 pub mod Order
 pub mod Rendered
+pub mod Drafts
 pub mod Call

@@ -5,22 +5,11 @@ use mathlib.Core.List.{List, [], _++_, map}
 use Prim.Native.Nat.{ℕ, zero, suc, _≤_, _<_}
 use lib.ListN.{length, take, drop, getD}
 use Rattle.cost.specs.Value.{value}
-use Rattle.cost.specs.declared.ConsumerCost.{ConsumerCost}
-use Rattle.layout.specs.Layout.{Plan}
 use Rattle.layout.specs.Spans.{Span}
-use Rattle.machine.specs.Events.{number, ret, _>>_, run}
-use Rattle.machine.specs.Materializer.{materialize, rendered}
-use Rattle.machine.specs.Answer.{Answer, paged, refused, answer-of}
+use Rattle.machine.specs.Answer.{Answer, paged, refused}
 use Rattle.stats.specs.declared.SolveStats.{SolveStats}
-use Rattle.solve_workspace.specs.declared.Bounds.{Bounds}
-use Rattle.solve_workspace.specs.declared.Why.{Why}
-use Rattle.solve_workspace.specs.Meets.{limits, tally, reason}
+use Rattle.solve_workspace.specs.Meets.{tally}
 use Rattle.materialize.specs.Rows.{Row, Fits}
-use Rattle.materialize.specs.Answer.{why-of}
-use Rattle.materialize.specs.declared.Capacity.{Capacity}
-use Rattle.materialize.specs.declared.Measured.{Measured}
-use Rattle.materialize.specs.declared.Measured.the-variants.{Page as Fitting, Refused as Lacking}
-use Rattle.solve.specs.declared.SolvedCore.{SolvedCore}
 use Rattle.render.specs.declared.page.Rendered.{Rendered}
 use Rattle.render.specs.declared.page.Rendered.the-variants.{Page, Refused}
 
@@ -62,8 +51,6 @@ pub record Stands (r : Rendered) (output₀ output : List ℕ) (rows₀ rows : L
   pub fitting : (k : ℕ) → k < span-count r → Fits (getD rows k [])
   pub no-fit-checks : counts-of r .«fit_checks» ≡ 0
 
--- ---- the solver's part
-
 -- counts with the visits, and no fit checks
 abbrev pub with-counts : SolveStats → ℕ → SolveStats
 with-counts k v = record {
@@ -78,27 +65,3 @@ with-counts k v = record {
   «plan_nodes» = k .«plan_nodes»;
   visits = v;
 }
-
-abbrev pub refusal : Why → ℕ → SolveStats → Rendered
-refusal why needed k = Refused (number (reason why)) needed (with-counts k (k .visits))
-
--- ---- the materializer's part
-
-abbrev pub shown : ConsumerCost → SolveStats → Measured → Rendered
-shown c k (Fitting n m v) = Page c n m (with-counts k v)
-shown c k (Lacking e needed v) = Refused (number (why-of e)) needed (with-counts k v)
-
-abbrev pub capacity : Bounds → Capacity
-capacity b = record { visit = b .visit; depth = b .depth; output = b .output; spans = b .spans; «visit_limit» = b .«visit_limit» }
-
--- memory for the materializer is as long as its sizes say
-pub record PageRoom (b : Bounds) (visit depth output : List ℕ) (spans : List Row) : Type 0 where
-  pub visit-lent : b .visit ≤ length visit
-  pub depth-lent : b .depth ≤ length depth
-  pub output-lent : b .output ≤ length output
-  pub spans-lent : b .spans ≤ length spans
-
--- the answer is the machine's, once the plan of layout p is chosen
-pub record Paged (b : Bounds) (c : SolvedCore) (p : Plan) (output₀ output : List ℕ) (rows₀ rows : List Row) (r : Rendered) : Type 0 where
-  pub is : meant r output rows ≡ answer-of (run (limits b) (tally (c .stats)) (materialize p >> ret (rendered p (value (c .cost)))))
-  pub stands : Stands r output₀ output rows₀ rows

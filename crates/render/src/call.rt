@@ -1,17 +1,24 @@
-// A call in document 01's order: 1, the file, the solver, the materializer.
+// A call in document 01's order: 1, the file, the solver, the materializer's first pass, and then its second.
+ghost use mathlib.Core.List.{List};
+ghost use Prim.Native.Nat.{ℕ, _≤_};
+ghost use lib.ListN.{length};
 ghost use Rattle.file_checks.specs.Judged.{tables};
 ghost use Rattle.machine_input.specs.Reading.{prepared};
+ghost use Rattle.solve_workspace.specs.declared.RenderOptions.{RenderOptions as Options};
 ghost use Rattle.solve_workspace.specs.Reading.{rules};
 ghost use Rattle.solve_execute.specs.Turn.{Room};
 ghost use Rattle.solve.specs.Accepted.{MemoRoom};
-ghost use Rattle.render.specs.Order.{InOrder};
-ghost use Rattle.render.specs.Rendered.{PageRoom};
-ghost use Rattle.render.specs.Call.{Rendering, Readied, Laid, Holding, MemoHolding, tables-held, lengths};
+ghost use Rattle.render.specs.declared.order.Lengths.{Lengths as Sizes};
+ghost use Rattle.render.specs.Order.{TablesLent, InOrder};
+ghost use Rattle.render.specs.Drafts.{Half, Writable};
+ghost use Rattle.render.specs.Call.{Rendering, Drafting, Readied, Laid, Holding, MemoHolding, tables-held, lengths, lengths-with};
 use crate::order::Lengths;
 use crate::order::in_order;
+use crate::page::Drafted;
 use crate::page::Rendered;
-use crate::page::page_of;
+use crate::page::measure_page;
 use crate::page::solver_refused;
+use crate::page::write_page;
 use file_form::fill::Counts;
 use file_tables::NodeId;
 use file_tables::TextId;
@@ -23,7 +30,7 @@ use solve_workspace::Bounds;
 use solve_workspace::RenderOptions;
 use stats::SolveStats;
 
-// The solver, then the materializer, on the tables of an accepted file.
+// The solver, then the first pass, on the tables of an accepted file.
 fn lay_out(
     options: RenderOptions,
     b: Bounds,
@@ -43,12 +50,9 @@ fn lay_out(
     frontier: &mut [u64],
     plans: &mut [[u32; 3]],
     visit: &mut [usize],
-    depth: &mut [usize],
-    output: &mut [u8],
-    spans: &mut [[u64; 4]],
-) -> Rendered
-    requires { ⌜ Room b (now tasks) (now results) (now pending) (now frontier) (now kept) (now plans) × MemoRoom b (now index) (now entries) × Readied (tables (now nodes) (now edges) (now choices) (now texts) (now bytes) 0 (root .0) (space .0)) × PageRoom b (now visit) (now depth) (now output) (now spans) ⌝ }
-    ensures { λ r. ⌜ Laid b (rules options) (prepared (tables (now (nodes .entry)) (now (edges .entry)) (now (choices .entry)) (now (texts .entry)) (now (bytes .entry)) 0 (root .0) (space .0))) (now (output .entry)) (now (output .exit)) (now (spans .entry)) (now (spans .exit)) r ⌝ }
+) -> Drafted
+    requires { ⌜ Room b (now tasks) (now results) (now pending) (now frontier) (now kept) (now plans) × MemoRoom b (now index) (now entries) × Readied (tables (now nodes) (now edges) (now choices) (now texts) (now bytes) 0 (root .0) (space .0)) × (b .visit ≤ length (now visit)) ⌝ }
+    ensures { λ r. ⌜ Half (Laid b (rules options) (prepared (tables (now (nodes .entry)) (now (edges .entry)) (now (choices .entry)) (now (texts .entry)) (now (bytes .entry)) 0 (root .0) (space .0)))) b (now (plans .exit)) (now (texts .entry)) (now (bytes .entry)) r ⌝ }
 {
     let a = solve(
         options,
@@ -73,7 +77,7 @@ fn lay_out(
             return solver_refused(why, needed, stats);
         }
         Solution::Found(core) => {
-            return page_of(b, core, plans, texts, bytes, visit, depth, output, spans);
+            return measure_page(b, core, plans, texts, bytes, visit);
         }
     }
 }
@@ -97,12 +101,9 @@ fn lay_out_held(
     frontier: &mut [u64],
     plans: &mut [[u32; 3]],
     visit: &mut [usize],
-    depth: &mut [usize],
-    output: &mut [u8],
-    spans: &mut [[u64; 4]],
-) -> Rendered
-    requires { ⌜ Room b (now tasks) (now results) (now pending) (now frontier) (now kept) (now plans) × MemoHolding b (now index) (now entries) × Holding n (now nodes) (now edges) (now choices) (now texts) (now bytes) × PageRoom b (now visit) (now depth) (now output) (now spans) ⌝ }
-    ensures { λ r. ⌜ Laid b (rules options) (prepared (tables-held n (now (nodes .entry)) (now (edges .entry)) (now (choices .entry)) (now (texts .entry)) (now (bytes .entry)))) (now (output .entry)) (now (output .exit)) (now (spans .entry)) (now (spans .exit)) r ⌝ }
+) -> Drafted
+    requires { ⌜ Room b (now tasks) (now results) (now pending) (now frontier) (now kept) (now plans) × MemoHolding b (now index) (now entries) × Holding n (now nodes) (now edges) (now choices) (now texts) (now bytes) × (b .visit ≤ length (now visit)) ⌝ }
+    ensures { λ r. ⌜ Half (Laid b (rules options) (prepared (tables-held n (now (nodes .entry)) (now (edges .entry)) (now (choices .entry)) (now (texts .entry)) (now (bytes .entry))))) b (now (plans .exit)) (now (texts .entry)) (now (bytes .entry)) r ⌝ }
 {
     let e0 = n.nodes as usize;
     let e1 = n.edges as usize;
@@ -129,9 +130,6 @@ fn lay_out_held(
         frontier,
         plans,
         visit,
-        depth,
-        output,
-        spans,
     )
 }
 
@@ -154,17 +152,14 @@ fn render_lent(
     frontier: &mut [u64],
     plans: &mut [[u32; 3]],
     visit: &mut [usize],
-    depth: &mut [usize],
-    output: &mut [u8],
-    spans: &mut [[u64; 4]],
-) -> Rendered
-    requires { ⌜ InOrder options b (lengths (now nodes) (now edges) (now choices) (now texts) (now bytes) (now tasks) (now results) (now pending) (now index) (now entries) (now kept) (now frontier) (now plans) (now visit) (now depth) (now output) (now spans)) ⌝ }
-    ensures { λ r. ⌜ Rendering (now (file .entry)) options b (lengths (now (nodes .entry)) (now (edges .entry)) (now (choices .entry)) (now (texts .entry)) (now (bytes .entry)) (now (tasks .entry)) (now (results .entry)) (now (pending .entry)) (now (index .entry)) (now (entries .entry)) (now (kept .entry)) (now (frontier .entry)) (now (plans .entry)) (now (visit .entry)) (now (depth .entry)) (now (output .entry)) (now (spans .entry))) (now (output .entry)) (now (output .exit)) (now (spans .entry)) (now (spans .exit)) r ⌝ }
+) -> Drafted
+    requires { ⌜ TablesLent (length (now nodes)) (length (now edges)) (length (now choices)) (length (now texts)) (length (now bytes)) × Room b (now tasks) (now results) (now pending) (now frontier) (now kept) (now plans) × MemoHolding b (now index) (now entries) × (b .visit ≤ length (now visit)) ⌝ }
+    ensures { λ r. ⌜ ((l : Sizes) → InOrder options b l → Half (Rendering (now (file .entry)) options b l) b (now (plans .exit)) (now (texts .exit)) (now (bytes .exit)) r) ⌝ }
 {
     let a = read_lent(file, nodes, edges, choices, texts, bytes);
     match a {
         Answer::Refused(number) => {
-            return Rendered::Refused {
+            return Drafted::Refused {
                 number: number,
                 needed: 0,
                 stats: SolveStats::ZERO,
@@ -189,10 +184,112 @@ fn render_lent(
                 frontier,
                 plans,
                 visit,
-                depth,
-                output,
-                spans,
             );
+        }
+    }
+}
+
+// The first half of a call: all but the writing. Of depth, output and spans it takes how many words, bytes and records there are.
+pub fn render_plan(
+    file: &[u8],
+    options: RenderOptions,
+    b: Bounds,
+    nodes: &mut [[u32; 8]],
+    edges: &mut [u32],
+    choices: &mut [u32],
+    texts: &mut [[u32; 3]],
+    bytes: &mut [u8],
+    tasks: &mut [[u32; 9]],
+    results: &mut [[u32; 2]],
+    pending: &mut [[u64; 7]],
+    index: &mut [u64],
+    entries: &mut [[u64; 6]],
+    kept: &mut [[u64; 6]],
+    frontier: &mut [u64],
+    plans: &mut [[u32; 3]],
+    visit: &mut [usize],
+    depth: usize,
+    output: usize,
+    spans: usize,
+) -> Drafted
+    ensures { λ r. ⌜ Drafting (now (file .entry)) options b (lengths-with (now (nodes .entry)) (now (edges .entry)) (now (choices .entry)) (now (texts .entry)) (now (bytes .entry)) (now (tasks .entry)) (now (results .entry)) (now (pending .entry)) (now (index .entry)) (now (entries .entry)) (now (kept .entry)) (now (frontier .entry)) (now (plans .entry)) (now (visit .entry)) depth output spans) (now (plans .exit)) (now (texts .exit)) (now (bytes .exit)) r ⌝ }
+{
+    let l = Lengths {
+        nodes: nodes.len(),
+        edges: edges.len(),
+        choices: choices.len(),
+        texts: texts.len(),
+        bytes: bytes.len(),
+        tasks: tasks.len(),
+        results: results.len(),
+        pending: pending.len(),
+        index: index.len(),
+        entries: entries.len(),
+        kept: kept.len(),
+        frontier: frontier.len(),
+        plans: plans.len(),
+        visit: visit.len(),
+        depth: depth,
+        output: output,
+        spans: spans,
+    };
+    if !in_order(options, b, l) {
+        return Drafted::Refused {
+            number: 1,
+            needed: 0,
+            stats: SolveStats::ZERO,
+        };
+    }
+    render_lent(
+        file,
+        options,
+        b,
+        nodes,
+        edges,
+        choices,
+        texts,
+        bytes,
+        tasks,
+        results,
+        pending,
+        index,
+        entries,
+        kept,
+        frontier,
+        plans,
+        visit,
+    )
+}
+
+// The second half: a page that is measured is written. A refusal alters nothing.
+fn write_drafted(
+    b: Bounds,
+    r: Drafted,
+    plans: &[[u32; 3]],
+    texts: &[[u32; 3]],
+    bytes: &[u8],
+    visit: &mut [usize],
+    depth: &mut [usize],
+    output: &mut [u8],
+    spans: &mut [[u64; 4]],
+) -> Rendered
+    requires { ⌜ Writable b (now plans) (now texts) (now bytes) (now visit) (now depth) (now output) (now spans) r ⌝ }
+    ensures { λ a. ⌜ ((file : List ℕ) (o : Options) (l : Sizes) → Half (Rendering file o b l) b (now (plans .entry)) (now (texts .entry)) (now (bytes .entry)) r → Rendering file o b l (now (output .entry)) (now (output .exit)) (now (spans .entry)) (now (spans .exit)) a) ⌝ }
+{
+    match r {
+        Drafted::Page(d) => {
+            return write_page(b, d, plans, texts, bytes, visit, depth, output, spans);
+        }
+        Drafted::Refused {
+            number,
+            needed,
+            stats,
+        } => {
+            return Rendered::Refused {
+                number: number,
+                needed: needed,
+                stats: stats,
+            };
         }
     }
 }
@@ -223,33 +320,7 @@ pub fn render_core(
 ) -> Rendered
     ensures { λ r. ⌜ Rendering (now (file .entry)) options b (lengths (now (nodes .entry)) (now (edges .entry)) (now (choices .entry)) (now (texts .entry)) (now (bytes .entry)) (now (tasks .entry)) (now (results .entry)) (now (pending .entry)) (now (index .entry)) (now (entries .entry)) (now (kept .entry)) (now (frontier .entry)) (now (plans .entry)) (now (visit .entry)) (now (depth .entry)) (now (output .entry)) (now (spans .entry))) (now (output .entry)) (now (output .exit)) (now (spans .entry)) (now (spans .exit)) r ⌝ }
 {
-    let l = Lengths {
-        nodes: nodes.len(),
-        edges: edges.len(),
-        choices: choices.len(),
-        texts: texts.len(),
-        bytes: bytes.len(),
-        tasks: tasks.len(),
-        results: results.len(),
-        pending: pending.len(),
-        index: index.len(),
-        entries: entries.len(),
-        kept: kept.len(),
-        frontier: frontier.len(),
-        plans: plans.len(),
-        visit: visit.len(),
-        depth: depth.len(),
-        output: output.len(),
-        spans: spans.len(),
-    };
-    if !in_order(options, b, l) {
-        return Rendered::Refused {
-            number: 1,
-            needed: 0,
-            stats: SolveStats::ZERO,
-        };
-    }
-    render_lent(
+    let r = render_plan(
         file,
         options,
         b,
@@ -267,8 +338,9 @@ pub fn render_core(
         frontier,
         plans,
         visit,
-        depth,
-        output,
-        spans,
-    )
+        depth.len(),
+        output.len(),
+        spans.len(),
+    );
+    write_drafted(b, r, plans, texts, bytes, visit, depth, output, spans)
 }

@@ -1,4 +1,4 @@
-// The public call on rows of words: refusal 1, then the file, the solver and the materializer.
+// The public call, in two halves: refusal 1, the file, the solver and the first pass of the materializer; and its second pass, with spans in rows of words.
 pub mod call;
 pub mod order;
 pub mod page;

@@ -1,17 +1,22 @@
-// The answer of a call, and the page of the plan that the solver has chosen.
+// The answer of a call, and the page of the plan that the solver has chosen: first it is measured, then written.
 ghost use mathlib.Core.Path.{_≡_};
+ghost use Prim.Native.Nat.{_≤_};
 ghost use lib.ListN.{length};
 ghost use Rattle.machine.specs.Events.{number};
 ghost use Rattle.solve_workspace.specs.Meets.{reason};
 ghost use Rattle.materialize.specs.Texts.{layout, InBytes};
-ghost use Rattle.materialize.specs.Answer.{why-of, Small};
+ghost use Rattle.materialize.specs.Answer.{why-of, Small, Lent};
+ghost use Rattle.materialize.specs.Writes.{Written};
 ghost use Rattle.solve.specs.Outcome.{Arranged};
-ghost use Rattle.render.specs.Rendered.{with-counts, refusal, shown, capacity, PageRoom, Paged};
+ghost use Rattle.render.specs.Rendered.{with-counts};
+ghost use Rattle.render.specs.Drafts.{capacity, chosen, page-of, Drawn, Half, refusal, drafted, Paged};
 use cost::ConsumerCost;
 use materialize::Capacity;
 use materialize::Exhausted;
 use materialize::Measured;
-use materialize::materialize;
+use materialize::measure;
+use materialize::write;
+use plan::PlanId;
 use solve::SolvedCore;
 use solve_workspace::Bounds;
 use solve_workspace::Why;
@@ -25,6 +30,30 @@ pub enum Rendered {
         spans: usize,
         stats: SolveStats,
     },
+    Refused {
+        number: u32,
+        needed: u64,
+        stats: SolveStats,
+    },
+}
+
+// A page that is chosen and measured, but not written. Its counts are the solver's, without the visits. Its layout is the plan `root` of the first `plans` plan records,
+// over the first `texts` rows of texts and the first `bytes` of their bytes.
+pub struct Draft {
+    pub cost: ConsumerCost,
+    pub length: usize,
+    pub spans: usize,
+    pub visits: u64,
+    pub stats: SolveStats,
+    pub root: PlanId,
+    pub plans: usize,
+    pub texts: usize,
+    pub bytes: usize,
+}
+
+// What a call comes to before anything is written.
+pub enum Drafted {
+    Page(Draft),
     Refused {
         number: u32,
         needed: u64,
@@ -70,20 +99,20 @@ fn solver_number(why: Why) -> u32
     }
 }
 
-pub fn solver_refused(why: Why, needed: u64, stats: SolveStats) -> Rendered
+pub fn solver_refused(why: Why, needed: u64, stats: SolveStats) -> Drafted
     ensures { λ r. ⌜ r ≡ refusal why needed stats ⌝ }
 {
     let number = solver_number(why);
     let mut counts = stats;
     counts.fit_checks = 0;
-    Rendered::Refused {
+    Drafted::Refused {
         number: number,
         needed: needed,
         stats: counts,
     }
 }
 
-fn capacity_of(b: Bounds) -> Capacity
+pub fn capacity_of(b: Bounds) -> Capacity
     ensures { λ r. ⌜ (r ≡ capacity b) × Small r ⌝ }
 {
     Capacity {
@@ -95,24 +124,33 @@ fn capacity_of(b: Bounds) -> Capacity
     }
 }
 
-fn show(cost: ConsumerCost, stats: SolveStats, m: Measured) -> Rendered
-    ensures { λ r. ⌜ r ≡ shown cost stats m ⌝ }
+fn draft_of(core: SolvedCore, texts: usize, bytes: usize, m: Measured) -> Drafted
+    ensures { λ r. ⌜ r ≡ drafted core texts bytes m ⌝ }
 {
+    let stats = core.stats;
     match m {
         Measured::Page(length, spans, visits) => {
-            let counts = with_visits(stats, visits);
-            Rendered::Page {
+            let counts = with_visits(stats, 0);
+            let cost = core.cost;
+            let root = core.root;
+            let d = Draft {
                 cost: cost,
                 length: length,
                 spans: spans,
+                visits: visits,
                 stats: counts,
-            }
+                root: root,
+                plans: core.plans,
+                texts: texts,
+                bytes: bytes,
+            };
+            Drafted::Page(d)
         }
         Measured::Refused(e, needed, visits) => {
             let counts = with_visits(stats, visits);
             let number = page_number(e);
             let size = needed as u64;
-            Rendered::Refused {
+            Drafted::Refused {
                 number: number,
                 needed: size,
                 stats: counts,
@@ -121,10 +159,41 @@ fn show(cost: ConsumerCost, stats: SolveStats, m: Measured) -> Rendered
     }
 }
 
-// The page and the spans of the chosen plan, or the first size or limit that they pass.
-pub fn page_of(
+// The chosen plan is measured: its page, or the first size or limit that it passes.
+pub fn measure_page(
     b: Bounds,
     core: SolvedCore,
+    plans: &[[u32; 3]],
+    texts: &[[u32; 3]],
+    bytes: &[u8],
+    visit: &mut [usize],
+) -> Drafted
+    requires { ⌜ (b .visit ≤ length (now visit)) × Arranged (length (now texts)) core (now plans) × InBytes (now texts) (now bytes) × (core .stats .visits ≡ 0) ⌝ }
+    ensures { λ r. ⌜ Half (Paged b core (layout (now (plans .entry)) (core .plans) (now (texts .entry)) (now (bytes .entry)) (core .root .0))) b (now (plans .entry)) (now (texts .entry)) (now (bytes .entry)) r ⌝ }
+{
+    let capacity = capacity_of(b);
+    let count = core.plans;
+    let m = measure(capacity, &plans[..count], texts, visit, core.root);
+    draft_of(core, texts.len(), bytes.len(), m)
+}
+
+fn page_answer(d: Draft) -> Rendered
+    ensures { λ r. ⌜ r ≡ page-of d ⌝ }
+{
+    let cost = d.cost;
+    let stats = with_visits(d.stats, d.visits);
+    Rendered::Page {
+        cost: cost,
+        length: d.length,
+        spans: d.spans,
+        stats: stats,
+    }
+}
+
+// A page that is measured is written: its bytes to the front of `output`, its spans to the front of `spans`.
+pub fn write_page(
+    b: Bounds,
+    d: Draft,
     plans: &[[u32; 3]],
     texts: &[[u32; 3]],
     bytes: &[u8],
@@ -133,24 +202,23 @@ pub fn page_of(
     output: &mut [u8],
     spans: &mut [[u64; 4]],
 ) -> Rendered
-    requires { ⌜ PageRoom b (now visit) (now depth) (now output) (now spans) × Arranged (length (now texts)) core (now plans) × InBytes (now texts) (now bytes) × (core .stats .visits ≡ 0) ⌝ }
-    ensures { λ r. ⌜ Paged b core (layout (now (plans .entry)) (core .plans) (now (texts .entry)) (now (bytes .entry)) (core .root .0)) (now (output .entry)) (now (output .exit)) (now (spans .entry)) (now (spans .exit)) r ⌝ }
+    requires { ⌜ Drawn b d (now plans) (now texts) (now bytes) × Lent (capacity b) (now visit) (now depth) (now output) (now spans) ⌝ }
+    ensures { λ r. ⌜ (r ≡ page-of d) × Written (chosen d (now (plans .entry)) (now (texts .entry)) (now (bytes .entry))) (now (output .entry)) (now (output .exit)) (now (spans .entry)) (now (spans .exit)) ⌝ }
 {
     let capacity = capacity_of(b);
-    let count = core.plans;
-    let cost = core.cost;
-    let stats = core.stats;
-    let m = materialize(
+    let e0 = d.plans;
+    let e1 = d.texts;
+    let e2 = d.bytes;
+    write(
         capacity,
-        plans,
-        count,
-        texts,
-        bytes,
+        &plans[..e0],
+        &texts[..e1],
+        &bytes[..e2],
         visit,
         depth,
         output,
         spans,
-        core.root,
+        d.root,
     );
-    show(cost, stats, m)
+    page_answer(d)
 }

@@ -1,7 +1,6 @@
--- A span as it is opened, as it is closed, and as a row of words holds it.
-use Prim.Native.Nat.{ℕ, zero, suc, _<_, _≤_, _^_}
-use mathlib.Core.List.{List, _++_, map}
-use lib.ListN.{getD, take, drop}
+-- A span as it is opened and as it is closed, and its parent as a word holds it.
+use Prim.Native.Nat.{ℕ, zero, suc, _≤_, _^_}
+use lib.ListN.{getD}
 use Rattle.file_tables.specs.declared.AnnotationId.{AnnotationId}
 use Rattle.spans.specs.declared.AnnotationSpan.{AnnotationSpan}
 use Rattle.spans.specs.declared.Parent.{Parent}
@@ -24,14 +23,3 @@ wordFits w = w ≤ 2 ^ 32
 unfoldable pub parentOf : ℕ → Parent
 parentOf zero = Nothing
 parentOf (suc k) = Span (record { 0 = k })
-
--- a row's words: annotation, start, end, parent
-abbrev pub RowFits : List ℕ → Type 0
-RowFits r = (getD r 0 0 < 2 ^ 32) × wordFits (getD r 3 0)
-
-abbrev pub spanOf : List ℕ → AnnotationSpan
-spanOf r = record { annotation = record { 0 = getD r 0 0 }; start = getD r 1 0; end = getD r 2 0; parent = parentOf (getD r 3 0) }
-
--- the spans of the first n rows, followed by what stood past them in the lent list
-unfoldable pub laid : List (List ℕ) → ℕ → List AnnotationSpan → List AnnotationSpan
-laid rows n spans = map spanOf (take n rows) ++ drop n spans

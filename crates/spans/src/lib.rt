@@ -1,9 +1,8 @@
 // Span records (document 01: the caller lends a list of them): annotation, start, end, parent span or none. Thin functions open and close one in the lent list.
 ghost use mathlib.Core.Path.{_≡_};
-ghost use Prim.Native.Nat.{ℕ, _<_, _≤_};
-ghost use mathlib.Core.List.{[]};
+ghost use Prim.Native.Nat.{_<_};
 ghost use lib.ListN.{length, set, getD};
-ghost use Rattle.spans.specs.Spans.{openSpan, closeSpan, blank, wordFits, parentOf, RowFits, spanOf, laid};
+ghost use Rattle.spans.specs.Spans.{openSpan, closeSpan, blank, wordFits, parentOf};
 use file_tables::AnnotationId;
 
 pub struct SpanId(pub u32);
@@ -71,36 +70,5 @@ pub fn parent_of(w: u64) -> Parent
         Parent::Nothing
     } else {
         Parent::Span(SpanId((w - 1) as u32))
-    }
-}
-
-// A span as a row of words holds it.
-pub fn span_at(rows: &[[u64; 4]], i: usize) -> AnnotationSpan
-    requires { ⌜ (i < length (now rows)) × RowFits (getD (now rows) i []) ⌝ }
-    ensures { λ r. ⌜ r ≡ spanOf (getD (now (rows .entry)) i []) ⌝ }
-{
-    let a = rows[i][0];
-    let start = rows[i][1];
-    let end = rows[i][2];
-    let parent = parent_of(rows[i][3]);
-    AnnotationSpan {
-        annotation: AnnotationId(a as u32),
-        start: start,
-        end: end,
-        parent: parent,
-    }
-}
-
-// The first n rows, as the materializer leaves them in working memory, are laid over the lent list; the records past them are as they were.
-pub fn replay_spans(rows: &[[u64; 4]], n: usize, spans: &mut [AnnotationSpan])
-    requires { ⌜ (n ≤ length (now rows)) × (n ≤ length (now spans)) × ((k : ℕ) → k < n → RowFits (getD (now rows) k [])) ⌝ }
-    ensures { λ _. ⌜ now (spans .exit) ≡ laid (now (rows .entry)) n (now (spans .entry)) ⌝ }
-{
-    let mut i: usize = 0;
-    while i < n {
-        let s = span_at(rows, i);
-        open_span(spans, i, s.annotation, s.start, s.parent);
-        close_span(spans, i, s.end);
-        i += 1;
     }
 }

@@ -2,7 +2,7 @@
 use Prim.Native.Nat.{ℕ, _+_}
 use Rattle.stats.specs.declared.SolveStats.{SolveStats}
 use Rattle.stats.specs.declared.SolveCounter.{SolveCounter}
-use Rattle.stats.specs.declared.SolveCounter.the-variants.{WorkItems, MemoHits, MemoMisses, CandidatesGenerated, CandidatesPruned}
+use Rattle.stats.specs.declared.SolveCounter.the-variants.{WorkItems, MemoHits, MemoMisses, CandidatesGenerated, CandidatesPruned, Visits}
 
 unfoldable pub counted : SolveStats → SolveCounter → ℕ
 counted s WorkItems = s .«work_items»
@@ -10,6 +10,7 @@ counted s MemoHits = s .«memo_hits»
 counted s MemoMisses = s .«memo_misses»
 counted s CandidatesGenerated = s .«candidates_generated»
 counted s CandidatesPruned = s .«candidates_pruned»
+counted s Visits = s .visits
 
 -- a record by its counts, in the order of the struct
 abbrev pub counts : ℕ → ℕ → ℕ → ℕ → ℕ → ℕ → ℕ → ℕ → ℕ → ℕ → SolveStats
@@ -27,3 +28,4 @@ bumped s MemoHits = counts (s .«work_items») (s .«fit_checks») (s .«memo_hi
 bumped s MemoMisses = counts (s .«work_items») (s .«fit_checks») (s .«memo_hits») (s .«memo_misses» + 1) (s .«candidates_generated») (s .«candidates_pruned») (s .«peak_frontier») (s .«memo_entries») (s .«plan_nodes») (s .visits)
 bumped s CandidatesGenerated = counts (s .«work_items») (s .«fit_checks») (s .«memo_hits») (s .«memo_misses») (s .«candidates_generated» + 1) (s .«candidates_pruned») (s .«peak_frontier») (s .«memo_entries») (s .«plan_nodes») (s .visits)
 bumped s CandidatesPruned = counts (s .«work_items») (s .«fit_checks») (s .«memo_hits») (s .«memo_misses») (s .«candidates_generated») (s .«candidates_pruned» + 1) (s .«peak_frontier») (s .«memo_entries») (s .«plan_nodes») (s .visits)
+bumped s Visits = counts (s .«work_items») (s .«fit_checks») (s .«memo_hits») (s .«memo_misses») (s .«candidates_generated») (s .«candidates_pruned») (s .«peak_frontier») (s .«memo_entries») (s .«plan_nodes») (s .visits + 1)

@@ -39,6 +39,7 @@ pub enum SolveCounter {
     MemoMisses,
     CandidatesGenerated,
     CandidatesPruned,
+    Visits,
 }
 
 // One counter more, by value.
@@ -62,6 +63,9 @@ pub fn incremented(s: SolveStats, c: SolveCounter) -> SolveStats
         }
         SolveCounter::CandidatesPruned => {
             t.candidates_pruned = t.candidates_pruned + 1;
+        }
+        SolveCounter::Visits => {
+            t.visits = t.visits + 1;
         }
     }
     t

@@ -3,7 +3,7 @@ use mathlib.Core.List.{List}
 use Prim.Native.Nat.{ℕ, _-_, _<_}
 use native.Mathlib.Omega.{arith}
 use borrow.Author.Needs.{needs}
-use lib.ListN.{length, length-set}
+use lib.ListN.{length}
 use Rattle.materialize.specs.Texts.{InBytes}
 use Rattle.materialize.specs.Walks.{Around, pile, plan, Sound}
 use Rattle.materialize.proofs.Turns.{spent}
@@ -23,29 +23,26 @@ abbrev μ-loop : tie.MeasureT-loop
 returns : tie.Need-returns Inv-loop μ-loop
 returns c = let a = c .before .before .before .args in λ bytes ib. none-fits (a .capacity) (plan (a .plans .now) (a .texts .now) bytes (a .root .0)) (c .if1 .taken)
 
-word-of-requires : tie.Need-word-of-requires Inv-loop μ-loop
-word-of-requires c κs = search needs
-
-slice-write-visit : tie.Need-slice-write-visit Inv-loop μ-loop
-slice-write-visit c = omega (arith, c .before .before .before .before .pre .0, c .before .if1 .left)
+begin-walk-requires : tie.Need-begin-walk-requires Inv-loop μ-loop
+begin-walk-requires c κs = omega (arith, c .before .before .before .before .pre .0, c .before .if1 .left)
 
 loop-holds : tie.Need-loop-holds Inv-loop μ-loop
 loop-holds c =
-    let a = c .before .before .before .before .args in
-    let v : 0 < a .capacity .visit = omega (arith, c .before .if1 .left) in
-    let h : 0 < length (a .visit .now) = omega (arith, c .before .before .before .before .pre .0) in
-    rw (c .word-of .ensures .0) (
+    let a = c .before .before .before .before .before .before .before .args in
+    let v : 0 < a .capacity .visit = omega (arith, c .before .before .before .before .if1 .left) in
+    let h : 0 < length (a .visit .now) = omega (arith, c .before .before .before .before .before .before .before .pre .0) in
+    rw (c .before .before .begin-walk .ensures .0, c .before .before .begin-walk .ensures .1) (
       refl,
-      sound-begin (a .capacity) (length (a .plans .now)) (a .visit .now) (a .root .0) v h (c .before .before .before .before .pre .2 .rooted),
+      sound-begin (a .capacity) (length (a .plans .now)) (a .visit .now) (a .root .0) v h (c .before .before .before .before .before .before .before .pre .2 .rooted),
       λ o bytes ib. along-begin (a .capacity) o (a .plans .now) (a .texts .now) bytes (a .root .0) (a .visit .now) v h,
     )
 
 same-length : tie.Need-same-length Inv-loop μ-loop
-same-length c = c .before .before .before .before .before .loop .inv .0 ∙ length-set (c .before .before .before .before .before .before .before .before .before .before .args .visit .now) 0 (c .before .before .before .before .before .before .word-of .result)
+same-length c = c .before .before .before .before .before .loop .inv .0 ∙ (c .before .before .before .before .before .before .before .visit .given)
 
 returns-2 : tie.Need-returns-2 Inv-loop μ-loop
 returns-2 c =
-    let a = c .before .before .before .before .before .before .before .before .before .before .args in
+    let a = c .before .before .before .before .before .before .before .before .before .before .before .before .before .args in
     let l = c .before .before .before .before .before .loop in
     λ bytes ib. along-stop (a .capacity) (a .plans .now) (a .texts .now) bytes (a .root .0) _ (l .w) _ _ _ (λ o. l .inv .2 o bytes ib)
     (λ o. spent (a .capacity) o (a .plans .now) (a .texts .now) bytes (l .visit) (l .w) (l .w .top - 1) (omega (arith, c .before .before .before .if2 .taken)) (c .if3 .taken))
@@ -54,10 +51,10 @@ visit-item-requires : tie.Need-visit-item-requires Inv-loop μ-loop
 visit-item-requires c κs = (
   record {
     some-left = c .before .before .before .before .if2 .taken;
-    visit-lent = omega (arith, c .before .before .before .before .before .before .before .before .before .before .before .pre .0, c .before .before .before .before .before .before .loop .inv .0, length-set (c .before .before .before .before .before .before .before .before .before .before .before .args .visit .now) 0 (c .before .before .before .before .before .before .before .word-of .result));
-    small = c .before .before .before .before .before .before .before .before .before .before .before .pre .1;
-    few = c .before .before .before .before .before .before .before .before .before .before .before .pre .2 .few;
-    ranked = c .before .before .before .before .before .before .before .before .before .before .before .pre .2 .ranked;
+    visit-lent = omega (arith, c .before .before .before .before .before .before .before .before .before .before .before .before .before .before .pre .0, c .before .before .before .before .before .before .loop .inv .0, (c .before .before .before .before .before .before .before .before .visit .given));
+    small = c .before .before .before .before .before .before .before .before .before .before .before .before .before .before .pre .1;
+    few = c .before .before .before .before .before .before .before .before .before .before .before .before .before .before .pre .2 .few;
+    ranked = c .before .before .before .before .before .before .before .before .before .before .before .before .before .before .pre .2 .ranked;
     sound = c .before .before .before .before .before .before .loop .inv .1;
   },
   c .before .if3 .left,
@@ -68,11 +65,11 @@ enum-known-s : tie.Need-enum-known-s Inv-loop μ-loop
 enum-known-s c = search needs
 
 same-length-2 : tie.Need-same-length-2 Inv-loop μ-loop
-same-length-2 c = omega (arith, c .before .before .before .before .before .before .before .before .before .before .before .before .loop .inv .0, c .before .before .before .before .before .visit-item .kept, length-set (c .before .before .before .before .before .before .before .before .before .before .before .before .before .before .before .before .before .args .visit .now) 0 (c .before .before .before .before .before .before .before .before .before .before .before .before .before .word-of .result))
+same-length-2 c = omega (arith, c .before .before .before .before .before .before .before .before .before .before .before .before .loop .inv .0, c .before .before .before .before .before .visit-item .kept, (c .before .before .before .before .before .before .before .before .before .before .before .before .before .before .visit .given))
 
 returns-3 : tie.Need-returns-3 Inv-loop μ-loop
 returns-3 c =
-    let a = c .before .before .before .before .before .before .before .before .before .before .before .before .before .before .before .before .before .args in
+    let a = c .before .before .before .before .before .before .before .before .before .before .before .before .before .before .before .before .before .before .before .before .args in
     let P = a .plans .now in
     let X = a .texts .now in
     let l = c .before .before .before .before .before .before .before .before .before .before .before .before .loop in
@@ -86,7 +83,7 @@ enum-known-s-2 c = search needs
 
 loop-less : tie.Need-loop-less Inv-loop μ-loop
 loop-less c =
-    let a = c .before .before .before .before .before .before .before .before .before .before .before .before .before .before .before .before .before .args in
+    let a = c .before .before .before .before .before .before .before .before .before .before .before .before .before .before .before .before .before .before .before .before .args in
     let P = a .plans .now in
     let X = a .texts .now in
     let l = c .before .before .before .before .before .before .before .before .before .before .before .before .loop in
@@ -97,7 +94,7 @@ loop-less c =
 
 loop-again : tie.Need-loop-again Inv-loop μ-loop
 loop-again c =
-    let a = c .before .before .before .before .before .before .before .before .before .before .before .before .before .before .before .before .before .args in
+    let a = c .before .before .before .before .before .before .before .before .before .before .before .before .before .before .before .before .before .before .before .before .args in
     let P = a .plans .now in
     let X = a .texts .now in
     let l = c .before .before .before .before .before .before .before .before .before .before .before .before .loop in
@@ -110,11 +107,11 @@ loop-again c =
     )
 
 same-length-3 : tie.Need-same-length-3 Inv-loop μ-loop
-same-length-3 c = c .before .before .loop .inv .0 ∙ length-set (c .before .before .before .before .before .before .before .args .visit .now) 0 (c .before .before .before .word-of .result)
+same-length-3 c = c .before .before .loop .inv .0 ∙ (c .before .before .before .before .visit .given)
 
 returns-4 : tie.Need-returns-4 Inv-loop μ-loop
 returns-4 c =
-    let a = c .before .before .before .before .before .before .before .args in
+    let a = c .before .before .before .before .before .before .before .before .before .before .args in
     let l = c .before .before .loop in
     λ bytes ib. along-end (a .capacity) (a .plans .now) (a .texts .now) bytes (a .root .0) (l .visit) (l .w) (λ o. l .inv .2 o bytes ib) (omega (arith, c .if2 .left))
 
@@ -125,8 +122,7 @@ measure-spec =
     Inv-loop
     μ-loop
     returns
-    word-of-requires
-    slice-write-visit
+    begin-walk-requires
     loop-holds
     same-length
     returns-2

@@ -1,179 +1,90 @@
 use mathlib.Core.Path.{_≡_, refl, _∙_}
 use Prim.Native.Nat.{_-_, _<_}
 use native.Mathlib.Omega.{arith}
-use borrow.Author.Needs.{needs}
-use lib.ListN.{length, length-set}
+use lib.ListN.{length}
 use Rattle.materialize.specs.Walks.{pile, plan, Sound}
 use Rattle.materialize.specs.Writes.{Writing}
-use Rattle.materialize.proofs.Passes.{sound-begin, turned-went}
-use Rattle.materialize.proofs.Untested.{no-stop, not-spent}
-use Rattle.materialize.proofs.Written.{writing-step, allowed, passing, some-visit, writing-begin, written-end}
+use Rattle.materialize.proofs.Passes.{sound-begin}
+use Rattle.materialize.proofs.Written.{turning, some-visit, writing-begin, written-end, mark-fits-more}
 use Rattle.materialize.proofs.write.Statement.{statement}
 use Rattle.materialize.proofs.write.Tie as tie
 
 abbrev Inv-loop : tie.InvT-loop
-Inv-loop capacity plans texts bytes stack₀ held₀ output₀ spans₀ number w₀ stack held output spans w =
-    (length stack ≡ length stack₀) × (length held ≡ length held₀) × (length output ≡ length output₀) × (length spans ≡ length spans₀)
-    × Sound capacity (length plans) (pile stack (w .top)) w × Writing capacity plans texts bytes number (pile stack (w .top)) w output₀ output held spans₀ spans
+Inv-loop capacity plans texts bytes visit₀ depth₀ output₀ spans₀ number w₀ visit depth output spans w =
+    (length visit ≡ length visit₀) × (length depth ≡ length depth₀) × (length output ≡ length output₀) × (length spans ≡ length spans₀)
+    × Sound capacity (length plans) (pile visit (w .top)) w × Writing capacity plans texts bytes number (pile visit (w .top)) w output₀ output depth spans₀ spans
 
 abbrev μ-loop : tie.MeasureT-loop
-μ-loop capacity plans texts bytes stack₀ held₀ output₀ spans₀ number w₀ stack held output spans w =
-    capacity .«visit_limit» - w .visits
+μ-loop capacity plans texts bytes visit₀ depth₀ output₀ spans₀ number w₀ visit depth output spans w = capacity .«visit_limit» - w .visits
 
-word-of-requires : tie.Need-word-of-requires Inv-loop μ-loop
-word-of-requires c κs = search needs
-
-slice-write-visit : tie.Need-slice-write-visit Inv-loop μ-loop
-slice-write-visit c =
-    let a = c .before .before .before .before .before .args in
-    let P = a .plans .now in
-    let X = a .texts .now in
-    let b = a .bytes .now in
-    let pre = c .before .before .before .before .before .pre in
-    omega (arith, pre .0 .visit-lent, some-visit (a .capacity) (plan P X b (a .root .0)) (pre .3))
+begin-walk-requires : tie.Need-begin-walk-requires Inv-loop μ-loop
+begin-walk-requires c κs = omega (arith, (c .before .before .before .before .before .pre) .0 .visit-lent, some-visit (c .before .before .before .before .before .args .capacity) (plan (c .before .before .before .before .before .args .plans .now) (c .before .before .before .before .before .args .texts .now) (c .before .before .before .before .before .args .bytes .now) (c .before .before .before .before .before .args .root .0)) ((c .before .before .before .before .before .pre) .3))
 
 loop-holds : tie.Need-loop-holds Inv-loop μ-loop
 loop-holds c =
-    let a = c .before .before .before .before .before .args in
-    let P = a .plans .now in
-    let X = a .texts .now in
-    let b = a .bytes .now in
-    let pre = c .before .before .before .before .before .pre in
-    let vis = some-visit (a .capacity) (plan P X b (a .root .0)) (pre .3) in
+    let a = c .before .before .before .before .before .before .before .before .args in
+    let pre = c .before .before .before .before .before .before .before .before .pre in
+    let vis = some-visit (a .capacity) (plan (a .plans .now) (a .texts .now) (a .bytes .now) (a .root .0)) (pre .3) in
     let h : 0 < length (a .visit .now) = omega (arith, pre .0 .visit-lent, vis) in
-    rw (c .word-of .ensures .0) (
+    rw (c .before .before .begin-walk .ensures .0, c .before .before .begin-walk .ensures .1) (
       refl,
       refl,
       refl,
       refl,
-      sound-begin (a .capacity) (length P) (a .visit .now) (a .root .0) vis h (pre .1 .rooted),
-      writing-begin (a .capacity) P X b (a .root .0) (a .visit .now) (a .output .now) (a .depth .now) (a .spans .now) (pre .3) h,
+      sound-begin (a .capacity) (length (a .plans .now)) (a .visit .now) (a .root .0) vis h (pre .1 .rooted),
+      writing-begin (a .capacity) (a .plans .now) (a .texts .now) (a .bytes .now) (a .root .0) (a .visit .now) (a .output .now) (a .depth .now) (a .spans .now) (pre .3) h,
     )
 
-visit-item-requires : tie.Need-visit-item-requires Inv-loop μ-loop
-visit-item-requires c κs =
-    let pre = c .before .before .before .before .before .before .before .before .before .pre in
-    let l = c .before .before .before .loop in
-    let h = passing (l .visit) (l .inv .5) (pre .2) in (
-      record {
-        some-left = c .before .if1 .taken;
-        visit-lent = omega (arith, pre .0 .visit-lent, l .inv .0, length-set (c .before .before .before .before .before .before .before .before .before .args .visit .now) 0 (c .before .before .before .before .word-of .result));
-        small = pre .0 .small;
-        few = pre .1 .few;
-        ranked = pre .1 .ranked;
-        sound = l .inv .4;
-      },
-      not-spent h (l .w .top - 1) (omega (arith, c .before .if1 .taken)),
-      λ f. h,
-    )
-
-enum-told : tie.Need-enum-told Inv-loop μ-loop
-enum-told c = search needs
-
-same-length : tie.Need-same-length Inv-loop μ-loop
-same-length c = omega (arith, c .before .before .before .before .before .before .before .before .loop .inv .0, c .before .before .before .before .visit-item .kept, length-set (c .before .before .before .before .before .before .before .before .before .before .before .before .before .before .args .visit .now) 0 (c .before .before .before .before .before .before .before .before .before .word-of .result))
-
-same-length-2 : tie.Need-same-length-2 Inv-loop μ-loop
-same-length-2 c = c .before .before .before .before .before .before .before .before .loop .inv .1
-
-same-length-3 : tie.Need-same-length-3 Inv-loop μ-loop
-same-length-3 c = c .before .before .before .before .before .before .before .before .loop .inv .2
-
-same-length-4 : tie.Need-same-length-4 Inv-loop μ-loop
-same-length-4 c = c .before .before .before .before .before .before .before .before .loop .inv .3
-
-returns : tie.Need-returns Inv-loop μ-loop
-returns c =
-    let a = c .before .before .before .before .before .before .before .before .before .before .before .before .before .before .args in
-    let P = a .plans .now in
-    let X = a .texts .now in
-    let b = a .bytes .now in
+turn-requires : tie.Need-turn-requires Inv-loop μ-loop
+turn-requires c κs =
     let pre = c .before .before .before .before .before .before .before .before .before .before .before .before .before .before .pre in
-    let l = c .before .before .before .before .before .before .before .before .loop in
-    let w = l .w in
-    let v = l .inv in
-    let r = c .before .before .before .before .visit-item .result in
-    let x = c .before .before .before .before .visit-item .last .1 .1 .1 .1 .1 .0 in
-    absurd (no-stop (passing (l .visit) (v .5) (pre .2)) x r (c .before .before .before .before .visit-item .ensures (v .5 .around) b (pre .2)) (c .enum-told .given .1))
+    let l = c .before .before .before .before .before .loop in
+    turning (l .visit) (l .inv .5)
+    (record {
+      some-left = c .before .before .before .if1 .taken;
+      visit-lent = omega (arith, pre .0 .visit-lent, l .inv .0, c .before .before .before .before .before .before .before .visit .given);
+      small = pre .0 .small;
+      few = pre .1 .few;
+      ranked = pre .1 .ranked;
+      sound = l .inv .4;
+    })
+    (pre .2) (omega (arith, pre .0 .depth-lent, l .inv .1)) (omega (arith, pre .0 .output-lent, l .inv .2))
 
-enum-known-s : tie.Need-enum-known-s Inv-loop μ-loop
-enum-known-s c = search needs
-
-perform-requires : tie.Need-perform-requires Inv-loop μ-loop
-perform-requires c κs =
-    let a = c .before .before .before .before .before .before .before .before .before .before .before .before .before .before .before .before .before .before .args in
-    let P = a .plans .now in
-    let X = a .texts .now in
-    let b = a .bytes .now in
-    let pre = c .before .before .before .before .before .before .before .before .before .before .before .before .before .before .before .before .before .before .pre in
-    let l = c .before .before .before .before .before .before .before .before .before .before .before .before .loop in
-    let w = l .w in
-    let v = l .inv in
-    let r = c .before .before .before .before .before .before .before .before .visit-item .result in
-    let x = c .before .before .before .before .before .before .before .before .visit-item .last .1 .1 .1 .1 .1 .0 in
-    let g = turned-went (a .capacity) (v .5 .around) P X b (l .visit) x w _ _ r (c .before .before .before .before .before .before .before .before .visit-item .ensures (v .5 .around) b (pre .2)) (c .before .before .before .before .s .given .1) in
-    allowed (v .5) g (v .4) (omega (arith, v .2, pre .0 .output-lent)) (omega (arith, v .1, pre .0 .depth-lent)) (omega (arith, v .3, pre .0 .spans-lent)) (pre .0 .small .spans-fits)
+mark-row-requires : tie.Need-mark-row-requires Inv-loop μ-loop
+mark-row-requires c κs = mark-fits-more (c .before .before .before .before .before .before .before .turn .result .mark) (c .before .before .before .before .before .before .before .before .before .before .before .before .before .before .before .before .before .before .before .before .before .before .args .capacity .spans) (length (c .before .before .before .before .before .before .before .before .before .before .before .before .before .loop .spans)) (c .before .before .before .before .before .before .before .turn .ensures .fits) (omega (arith, c .before .before .before .before .before .before .before .before .before .before .before .before .before .loop .inv .3, (c .before .before .before .before .before .before .before .before .before .before .before .before .before .before .before .before .before .before .before .before .before .before .pre) .0 .spans-lent))
 
 loop-less : tie.Need-loop-less Inv-loop μ-loop
-loop-less c =
-    let a = c .before .before .before .before .before .before .before .before .before .before .before .before .before .before .before .before .before .before .before .before .before .before .before .before .args in
-    let P = a .plans .now in
-    let X = a .texts .now in
-    let b = a .bytes .now in
-    let pre = c .before .before .before .before .before .before .before .before .before .before .before .before .before .before .before .before .before .before .before .before .before .before .before .before .pre in
-    let l = c .before .before .before .before .before .before .before .before .before .before .before .before .before .before .before .before .before .before .loop in
-    let w = l .w in
-    let v = l .inv in
-    let r = c .before .before .before .before .before .before .before .before .before .before .before .before .before .before .visit-item .result in
-    let x = c .before .before .before .before .before .before .before .before .before .before .before .before .before .before .visit-item .last .1 .1 .1 .1 .1 .0 in
-    let g = turned-went (a .capacity) (v .5 .around) P X b (l .visit) x w _ _ r (c .before .before .before .before .before .before .before .before .before .before .before .before .before .before .visit-item .ensures (v .5 .around) b (pre .2)) (c .before .before .before .before .before .before .before .before .before .before .s .given .1) in
-    omega (arith, g .moved .counted, g .sound .visits-le)
+loop-less c = omega (arith, c .before .before .before .before .before .before .before .before .before .before .turn .ensures .counted, c .before .before .before .before .before .before .before .before .before .before .turn .ensures .sound .visits-le)
 
 loop-again : tie.Need-loop-again Inv-loop μ-loop
 loop-again c =
-    let a = c .before .before .before .before .before .before .before .before .before .before .before .before .before .before .before .before .before .before .before .before .before .before .before .before .args in
-    let P = a .plans .now in
-    let X = a .texts .now in
-    let b = a .bytes .now in
-    let pre = c .before .before .before .before .before .before .before .before .before .before .before .before .before .before .before .before .before .before .before .before .before .before .before .before .pre in
-    let l = c .before .before .before .before .before .before .before .before .before .before .before .before .before .before .before .before .before .before .loop in
-    let w = l .w in
-    let v = l .inv in
-    let r = c .before .before .before .before .before .before .before .before .before .before .before .before .before .before .visit-item .result in
-    let x = c .before .before .before .before .before .before .before .before .before .before .before .before .before .before .visit-item .last .1 .1 .1 .1 .1 .0 in
-    let g = turned-went (a .capacity) (v .5 .around) P X b (l .visit) x w _ _ r (c .before .before .before .before .before .before .before .before .before .before .before .before .before .before .visit-item .ensures (v .5 .around) b (pre .2)) (c .before .before .before .before .before .before .before .before .before .before .s .given .1) in
-    let st = writing-step (v .5) g (v .4) (omega (arith, v .2, pre .0 .output-lent)) (omega (arith, v .1, pre .0 .depth-lent)) (omega (arith, v .3, pre .0 .spans-lent)) (pre .0 .small .spans-fits) (c .before .before .before .before .before .perform .ensures .fits) in (
-      omega (arith, v .0, c .before .before .before .before .before .before .before .before .before .before .before .before .before .before .visit-item .kept),
-      omega (arith, v .1, c .before .before .before .before .before .perform .kept),
-      omega (arith, v .2, c .before .before .before .before .before .perform .kept),
-      omega (arith, v .3, c .before .before .before .before .before .perform .kept),
-      g .sound,
-      rw (c .before .before .before .before .before .perform .ensures .output-is, c .before .before .before .before .before .perform .ensures .depth-is, c .before .before .before .before .before .perform .ensures .spans-is) st,
+    let v = c .before .before .before .before .before .before .before .before .before .before .before .before .before .before .before .before .loop .inv in (
+      c .before .before .before .before .before .before .before .before .before .visit2 .given ∙ v .0,
+      c .before .before .before .before .before .before .before .depth .given ∙ v .1,
+      c .before .before .before .before .before .output .given ∙ v .2,
+      c .before .spans .given ∙ v .3,
+      c .before .before .before .before .before .before .before .before .before .before .turn .ensures .sound,
+      rw (c .before .before .mark-row .ensures) (c .before .before .before .before .before .before .before .before .before .before .turn .ensures .writing _ _ _ _ (omega (arith, v .3, (c .before .before .before .before .before .before .before .before .before .before .before .before .before .before .before .before .before .before .before .before .before .before .before .before .before .pre) .0 .spans-lent)) (v .5)),
     )
 
-same-length-5 : tie.Need-same-length-5 Inv-loop μ-loop
-same-length-5 c = c .before .before .loop .inv .0 ∙ length-set (c .before .before .before .before .before .before .before .before .args .visit .now) 0 (c .before .before .before .word-of .result)
+same-length : tie.Need-same-length Inv-loop μ-loop
+same-length c = c .before .before .loop .inv .0 ∙ c .before .before .before .before .visit .given
 
-same-length-6 : tie.Need-same-length-6 Inv-loop μ-loop
-same-length-6 c = c .before .before .loop .inv .1
+same-length-2 : tie.Need-same-length-2 Inv-loop μ-loop
+same-length-2 c = c .before .before .loop .inv .1
 
-same-length-7 : tie.Need-same-length-7 Inv-loop μ-loop
-same-length-7 c = c .before .before .loop .inv .2
+same-length-3 : tie.Need-same-length-3 Inv-loop μ-loop
+same-length-3 c = c .before .before .loop .inv .2
 
-same-length-8 : tie.Need-same-length-8 Inv-loop μ-loop
-same-length-8 c = c .before .before .loop .inv .3
+same-length-4 : tie.Need-same-length-4 Inv-loop μ-loop
+same-length-4 c = c .before .before .loop .inv .3
 
-returns-2 : tie.Need-returns-2 Inv-loop μ-loop
-returns-2 c =
-    let a = c .before .before .before .before .before .before .before .before .args in
-    let P = a .plans .now in
-    let X = a .texts .now in
-    let b = a .bytes .now in
-    let pre = c .before .before .before .before .before .before .before .before .pre in
+returns : tie.Need-returns Inv-loop μ-loop
+returns c =
+    let pre = c .before .before .before .before .before .before .before .before .before .before .before .pre in
     let l = c .before .before .loop in
-    let w = l .w in
     let v = l .inv in
-    let q : w .top ≡ 0 = omega (arith, c .if1 .left) in
+    let q : l .w .top ≡ 0 = omega (arith, c .if1 .left) in
     written-end (l .visit) (v .5) q (omega (arith, v .2, pre .0 .output-lent, v .4 .at-le)) (omega (arith, v .3, pre .0 .spans-lent, v .4 .spans-le))
 
 pub write-spec : {M : Type 1} → statement M
@@ -182,22 +93,14 @@ write-spec =
     (tie.spec
     Inv-loop
     μ-loop
-    word-of-requires
-    slice-write-visit
+    begin-walk-requires
     loop-holds
-    visit-item-requires
-    enum-told
+    turn-requires
+    mark-row-requires
+    loop-less
+    loop-again
     same-length
     same-length-2
     same-length-3
     same-length-4
-    returns
-    enum-known-s
-    perform-requires
-    loop-less
-    loop-again
-    same-length-5
-    same-length-6
-    same-length-7
-    same-length-8
-    returns-2)
+    returns)

@@ -1,0 +1,76 @@
+-- The second half of a call: what its steps ask, and what they come to.
+use mathlib.Core.Path.{_≡_, refl, sym, _∙_}
+use mathlib.Core.List.{List}
+use Prim.Native.Nat.{ℕ, _+_, _<_}
+use native.Mathlib.Omega.{arith}
+use lib.ListN.{length, length-set}
+use lib.Seq.{getD-set-same}
+use Rattle.stats.specs.declared.SolveStats.{SolveStats}
+use Rattle.stats.specs.Counts.{counts}
+use Rattle.spans.specs.declared.AnnotationSpan.{AnnotationSpan}
+use Rattle.solve_workspace.specs.declared.Bounds.{Bounds}
+use Rattle.materialize.specs.Rows.{Row}
+use Rattle.materialize.specs.Writes.{Passes}
+use Rattle.materialize.proofs.Written.{some-visit, page-passes}
+use Rattle.records.specs.Records.{visited, Begun, Recorded}
+use Rattle.render.specs.declared.page.Draft.{Draft}
+use Rattle.render.specs.declared.page.Drafted.{Drafted}
+use Rattle.render.specs.declared.page.Drafted.the-variants.{Page as Drawing, Refused as Denied}
+use Rattle.render.specs.Rendered.{with-counts}
+use Rattle.render.specs.Drafts.{capacity, chosen, Drawn}
+use Rattle.printer.specs.declared.Outcome.{Outcome}
+use Rattle.printer.specs.Delivered.{outcome, counts-first, start-of, start-words, Rooted, Deliverable, Delivered}
+
+-- the draft passes, with its own number of visits
+abbrev passes : {b : Bounds} {plans texts : List Row} {bytes : List ℕ} (d : Draft) → Drawn b d plans texts bytes → Passes (capacity b) (chosen d plans texts bytes)
+passes {b} {plans} {texts} {bytes} d y =
+    let o = page-passes (capacity b) (chosen d plans texts bytes) (d .length) (d .spans) (d .visits) _ (y .measured) refl .around in
+    record { around = o; visits = d .visits; passed = sym (y .measured .answer o) }
+
+-- visits counted one by one from the draft's counts are the draft's visits
+last-counts : {b : Bounds} {plans texts : List Row} {bytes : List ℕ} (d : Draft) → Drawn b d plans texts bytes → visited (d .stats) (d .visits) ≡ with-counts (d .stats) (d .visits)
+last-counts d y = rw (y .no-fit-checks) refl
+
+module _ {b : Bounds} {plans texts : List Row} {bytes visit depth output : List ℕ} {spans : List AnnotationSpan} where
+  some-words : (d : Draft) → Deliverable b (Drawing d) plans texts bytes visit depth output spans → 0 < length visit
+  some-words d x = omega (arith, x .by .1 .visit-lent, some-visit (capacity b) (chosen d plans texts bytes) (passes d (x .by .0)))
+
+  pub rooted : (a : Drafted) → Deliverable b a plans texts bytes visit depth output spans → Rooted a visit
+  rooted (Drawing d) x = record { by = some-words d x }
+  rooted (Denied n needed k) x = record { by = tt }
+
+  pub begun : (a : Drafted) → Deliverable b a plans texts bytes visit depth output spans
+      → Begun (start-of b a .capacity) (start-of b a .chosen) plans texts bytes (start-words a visit) depth output (counts-first a) spans (start-of b a .walk)
+  begun (Drawing d) x = record {
+    ready = λ p. record {
+      in-use = record { plans-lent = x .by .0 .plans-in; texts-lent = x .by .0 .texts-in; bytes-lent = x .by .0 .bytes-in };
+      lent = record {
+        small = x .by .1 .small;
+        visit-lent = omega (arith, x .by .1 .visit-lent, length-set visit 0 (d .root .0 + 1));
+        depth-lent = x .by .1 .depth-lent;
+        output-lent = x .by .1 .output-lent;
+        spans-lent = x .by .1 .spans-lent;
+      };
+      planned = x .by .0 .planned;
+      inside = x .by .0 .inside;
+      passes = passes d (x .by .0);
+      started = refl;
+      root-first = getD-set-same visit 0 (d .root .0 + 1) 0 (some-words d x);
+    };
+    uncounted = λ p. x .by .0 .unvisited;
+  }
+  begun (Denied n needed k) x = record { ready = λ p. absurd (omega (arith, p)); uncounted = λ p. absurd (omega (arith, p)) }
+
+  pub delivered : (a : Drafted) {output′ : List ℕ} {spans′ : List AnnotationSpan} {stats : SolveStats} {z : Outcome} → Deliverable b a plans texts bytes visit depth output spans
+      → Recorded (start-of b a .capacity) (start-of b a .chosen) plans texts bytes output output′ (counts-first a) stats spans spans′ (start-of b a .walk) → z ≡ outcome a
+      → Delivered a plans texts bytes output output′ spans spans′ stats z
+  delivered (Drawing d) x y e = record {
+    outcome-is = e;
+    counts-are = y .visits-are (omega arith) (passes d (x .by .0)) ∙ last-counts d (x .by .0);
+    wrote = y .written (omega arith);
+  }
+  delivered (Denied n needed k) x y e = record {
+    outcome-is = e;
+    counts-are = y .none refl .1;
+    wrote = (y .none refl .0, y .none refl .2);
+  }
