@@ -19,12 +19,10 @@ use Rattle.materialize.specs.declared.Visited.{Visited}
 use Rattle.materialize.specs.declared.Visited.the-variants.{Went}
 use Rattle.materialize.specs.declared.Mark.{Mark}
 use Rattle.materialize.specs.declared.Mark.the-variants.{Nothing, Open as Opens, Close as Closes}
-use Rattle.materialize.specs.declared.Measured.{Measured}
-use Rattle.materialize.specs.declared.Measured.the-variants.{Page}
 use Rattle.materialize.specs.Rows.{Row, span-rows, Fits}
 use Rattle.materialize.specs.Texts.{InBytes}
 use Rattle.materialize.specs.Answer.{with-visits, over}
-use Rattle.materialize.specs.Walks.{Around, begin, ran, pile, works, plan, ahead, pages, ends, puts, Room, Passing, Sound, Standing, Walked, Turned, Answered}
+use Rattle.materialize.specs.Walks.{Around, begin, ran, pile, works, plan, ahead, pages, ends, puts, Room, Passing, Sound, Standing, Walked, Turned}
 use Rattle.materialize.specs.Writes.{wrote, Under, depth-after, mark-of, MarkFits, ActFits, Allowed, Performed, Turning, Stepped, Passes, Written, Writing}
 use Rattle.materialize.proofs.Parts.{spans-after, under-more, open-is, top-under, parent-low, rows-is, past-is, spans-rise, under-is, rows-fit, drop-later}
 use Rattle.materialize.proofs.Untested.{never}
@@ -194,9 +192,3 @@ visits-end c P X bytes root e w l q h =
     same k v u e = let q : with-visits k v ≡ with-visits k u = cc in ap (λ (z : Counts). z .visits) q
 
 -- ---- both passes
-
--- the first pass's answer is the second's leave to write
-pub page-passes : (c : Capacity) (p : Plan) (l n k : ℕ) (r : Measured) → Answered c p r → r ≡ Page l n k → Passes c p
-page-passes c p l n k r h q =
-    let g = subst (λ (x : Measured). Answered c p x) q h in
-    record { around = some-around; visits = k; passed = sym (g .answer some-around) }

@@ -1,5 +1,5 @@
 -- The second half of a call: what its steps ask, and what they come to.
-use mathlib.Core.Path.{_≡_, refl, sym, _∙_}
+use mathlib.Core.Path.{_≡_, refl, _∙_}
 use mathlib.Core.List.{List}
 use Prim.Native.Nat.{ℕ, _+_, _<_}
 use native.Mathlib.Omega.{arith}
@@ -10,22 +10,16 @@ use Rattle.stats.specs.Counts.{counts}
 use Rattle.spans.specs.declared.AnnotationSpan.{AnnotationSpan}
 use Rattle.solve_workspace.specs.declared.Bounds.{Bounds}
 use Rattle.materialize.specs.Rows.{Row}
-use Rattle.materialize.specs.Writes.{Passes}
-use Rattle.materialize.proofs.Written.{some-visit, page-passes}
+use Rattle.materialize.proofs.Written.{some-visit}
 use Rattle.records.specs.Records.{visited, Begun, Recorded}
 use Rattle.render.specs.declared.page.Draft.{Draft}
 use Rattle.render.specs.declared.page.Drafted.{Drafted}
 use Rattle.render.specs.declared.page.Drafted.the-variants.{Page as Drawing, Refused as Denied}
 use Rattle.render.specs.Rendered.{with-counts}
 use Rattle.render.specs.Drafts.{capacity, chosen, Drawn}
+use Rattle.render.proofs.Halves.{drawn-passes}
 use Rattle.printer.specs.declared.Outcome.{Outcome}
 use Rattle.printer.specs.Delivered.{outcome, counts-first, start-of, start-words, Rooted, Deliverable, Delivered}
-
--- the draft passes, with its own number of visits
-abbrev passes : {b : Bounds} {plans texts : List Row} {bytes : List ℕ} (d : Draft) → Drawn b d plans texts bytes → Passes (capacity b) (chosen d plans texts bytes)
-passes {b} {plans} {texts} {bytes} d y =
-    let o = page-passes (capacity b) (chosen d plans texts bytes) (d .length) (d .spans) (d .visits) _ (y .measured) refl .around in
-    record { around = o; visits = d .visits; passed = sym (y .measured .answer o) }
 
 -- visits counted one by one from the draft's counts are the draft's visits
 last-counts : {b : Bounds} {plans texts : List Row} {bytes : List ℕ} (d : Draft) → Drawn b d plans texts bytes → visited (d .stats) (d .visits) ≡ with-counts (d .stats) (d .visits)
@@ -33,7 +27,7 @@ last-counts d y = rw (y .no-fit-checks) refl
 
 module _ {b : Bounds} {plans texts : List Row} {bytes visit depth output : List ℕ} {spans : List AnnotationSpan} where
   some-words : (d : Draft) → Deliverable b (Drawing d) plans texts bytes visit depth output spans → 0 < length visit
-  some-words d x = omega (arith, x .by .1 .visit-lent, some-visit (capacity b) (chosen d plans texts bytes) (passes d (x .by .0)))
+  some-words d x = omega (arith, x .by .1 .visit-lent, some-visit (capacity b) (chosen d plans texts bytes) (drawn-passes (x .by .0)))
 
   pub rooted : (a : Drafted) → Deliverable b a plans texts bytes visit depth output spans → Rooted a visit
   rooted (Drawing d) x = record { by = some-words d x }
@@ -53,7 +47,7 @@ module _ {b : Bounds} {plans texts : List Row} {bytes visit depth output : List 
       };
       planned = x .by .0 .planned;
       inside = x .by .0 .inside;
-      passes = passes d (x .by .0);
+      passes = drawn-passes (x .by .0);
       started = refl;
       root-first = getD-set-same visit 0 (d .root .0 + 1) 0 (some-words d x);
     };
@@ -66,7 +60,7 @@ module _ {b : Bounds} {plans texts : List Row} {bytes visit depth output : List 
       → Delivered a plans texts bytes output output′ spans spans′ stats z
   delivered (Drawing d) x y e = record {
     outcome-is = e;
-    counts-are = y .visits-are (omega arith) (passes d (x .by .0)) ∙ last-counts d (x .by .0);
+    counts-are = y .visits-are (omega arith) (drawn-passes (x .by .0)) ∙ last-counts d (x .by .0);
     wrote = y .written (omega arith);
   }
   delivered (Denied n needed k) x y e = record {

@@ -33,8 +33,8 @@ module _ {G : Promise} {b : Bounds} {P X : List Row} {B : List ℕ} (r : Drafted
   pub half-pledged : {d : Draft} → r ≡ Page d → Pledged G (chosen d P X B) (page-of d)
   half-pledged e = subst (λ (y : Drafted). Half G b P X B y) e h .by .1
 
--- what passes every limit may be written
-pub drawn-passes : {b : Bounds} {d : Draft} {P X : List Row} {B : List ℕ} → Drawn b d P X B → Passes (capacity b) (chosen d P X B)
+-- what passes every limit may be written, in its own number of visits
+abbrev pub drawn-passes : {b : Bounds} {d : Draft} {P X : List Row} {B : List ℕ} → Drawn b d P X B → Passes (capacity b) (chosen d P X B)
 drawn-passes {b} {d} h = let o : Around = record { bounds = limits b; counts = tally (d .stats) } in record { around = o; visits = d .visits; passed = sym (h .measured .answer o) }
 
 -- ---- of one promise for another, and of part of the tables for the whole
