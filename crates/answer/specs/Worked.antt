@@ -3,10 +3,8 @@ use mathlib.Core.Path.{_≡_, refl, sym, ap, _∙_, subst}
 use mathlib.Core.Bool.{Bool, true, false, not, _||_}
 use mathlib.Core.Option.{some}
 use mathlib.Core.List.{List, [], _∷_}
-use mathlib.Core.Logic.{by-cases}
 use Prim.Native.Nat.{ℕ, zero, suc, _+_, _≤_, _<_}
 use native.Mathlib.Omega.{arith}
-use native.Mathlib.Decide.{decLt}
 use lib.Dec.{ltb, leb, eqb}
 use lib.ListN.{length, getD}
 use borrow.Author.Tests.{ltb-true, leb-true, eqb-true, eqb-false, eq-eqb, not-true}
@@ -16,10 +14,10 @@ use Rattle.layout.specs.Frontier.{covers}
 use Rattle.layout.specs.Frontier.{present as presented}
 use Rattle.file_tables.specs.Tables.{Tables, kind, first, second, flat, flat-mark, flat-word, if-marked, choice-length, node-row, width}
 use Rattle.file_form.specs.Kinds.{both, only, named, hasFirst, hasSecond, mapRight, pairRight}
+use Rattle.file_form.specs.Tests.{both-true, only-true, all-below, at-below}
 use Rattle.file_form.specs.Form.{formFault, tablesOf}
 use Rattle.file_encode.specs.Encode.{mapOf, headerMap, encHeader, nodeMap, encNode, textMap, encText, encTexts, each, encode, lengths, Sized}
 use Rattle.file_encode.specs.Faults.{nodeRight, nodesFault, textsFault, headerFault, tablesFault}
-use Rattle.file_encode.specs.Maps.{both-true}
 use Rattle.file_encode.specs.Trips.{reads-back}
 use Rattle.file_checks.specs.References.{Child, of-group, of-nest, of-align, preferred, alternative, of-annotate, of-penalty, Ranged, seq, fill, lengths-of, Named, References}
 use Rattle.file_checks.specs.Texts.{TextsOk, SpaceOk, text-bytes}
@@ -80,16 +78,6 @@ counted w h m g p t e n v = record {
 
 -- ---- a test for tables in which every number of a node names an earlier one, and which have no choice list
 
-abbrev all-below : ℕ → (ℕ → Bool) → Bool
-all-below zero f = true
-all-below (suc n) f = both (f n) (all-below n f)
-
-at-below : (n : ℕ) (f : ℕ → Bool) → all-below n f ≡ true → (k : ℕ) → k < n → f k ≡ true
-at-below zero f e k h = absurd (omega arith)
-at-below (suc n) f e k h =
-    let b = both-true (f n) (all-below n f) e in
-    by-cases (decLt k n) (λ l. at-below n f (b .1) k l) (λ l. let q : n ≡ k = omega arith in subst (λ (i : ℕ). f i ≡ true) q (b .0))
-
 abbrev all : List Bool → Bool
 all [] = true
 all (b ∷ bs) = both b (all bs)
@@ -98,11 +86,6 @@ all-at : (bs : List Bool) → all bs ≡ true → (k : ℕ) → getD bs k true �
 all-at [] e k = refl
 all-at (b ∷ bs) e zero = both-true b (all bs) e .0
 all-at (b ∷ bs) e (suc k) = all-at bs (both-true b (all bs) e .1) k
-
-only-true : (x y : Bool) → only x y ≡ true → x ≡ true → y ≡ true
-only-true x true e h = refl
-only-true true false e h = e
-only-true false false e h = h
 
 -- kinds whose first, whose second is a child, whose two are a range of edges
 abbrev one-child : ℕ → Bool

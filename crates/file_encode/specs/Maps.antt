@@ -1,5 +1,5 @@
 -- The bits of a map byte.
-use mathlib.Core.Path.{_≡_, refl, ap}
+use mathlib.Core.Path.{_≡_}
 use mathlib.Core.Bool.{Bool, true, false}
 use mathlib.Core.List.{List, [], _∷_}
 use Prim.Native.Nat.{ℕ, _/_, _%_, _≤_}
@@ -8,6 +8,7 @@ use lib.Dec.{leb}
 use borrow.Author.Tests.{leb-true}
 use Rattle.file_fields.specs.Fields.{bit}
 use Rattle.file_form.specs.Kinds.{both, only, mapRight}
+pub use Rattle.file_form.specs.Tests.{both-true, both-is}
 use Rattle.file_encode.specs.Encode.{flag, mapOf}
 use Rattle.file_encode.specs.Fields.{flag-bit, bit-flag}
 
@@ -89,14 +90,6 @@ whole7 m h =
       shift m 32 64 (omega arith),
     )
     (more m _ (whole6 (m / 2) (omega arith)))
-
--- two that hold together
-pub both-true : (a b : Bool) → both a b ≡ true → (a ≡ true) × (b ≡ true)
-both-true true b e = (refl, e)
-both-true false b e = let z : _≡_ {A = ℕ} 0 1 = ap (λ (x : Bool). flag x) e in absurd (omega arith)
-
-pub both-is : (a b : Bool) → a ≡ true → b ≡ true → both a b ≡ true
-both-is a b ea eb = rw (ea, eb)
 
 pub map-le : (m : ℕ) → mapRight m ≡ true → m ≤ 63
 unfolding mapRight

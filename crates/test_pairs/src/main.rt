@@ -1,6 +1,6 @@
-// Every map byte beside every kind byte, through the public reader and writer: a line for each kind that may have some map, with these maps in
-// hexadecimal, and at the end how many pairs are right and how many are 3. Three times: files that end behind the kind byte (a right pair is 2),
-// whole files (accepted, or 10, and then starred), and tables of one node (anything but 3).
+// Every map byte beside every kind byte, through the public reader and writer: a line for each kind beside which some map may stand, with these maps
+// in hexadecimal, and last how many pairs are right and how many are 3. Three times: files that end behind the kind byte (a right pair is 2), whole
+// files (a right pair is accepted, or 10, and then starred), and tables of one node (a right pair is not 3).
 ghost use Prim.Native.Nat.{_≤_};
 use file_tables::NodeId;
 use file_tables::TextId;
