@@ -28,6 +28,8 @@ pub struct Tally {
     /// Choice lists that prepare.rs built.
     pub prepared_lists: u64,
     pub damaged: u64,
+    /// Files and tables with a pair of map byte and kind byte.
+    pub pairs: u64,
     pub masked: u64,
     pub past_64: u64,
     pub limit_checks: u64,

@@ -1,10 +1,10 @@
 //! All documents of a few nodes over a small alphabet, under all small settings; and all files that differ in one byte, or are cut short,
-//! from a few small ones.
+//! from a few small ones; and every map byte beside every kind byte.
 
 use common::{kind, Limits, Node, Settings, Sizes, Tables, Text};
 
 use crate::compare::{Call, Comparer, LIMITS};
-use crate::fixed;
+use crate::{fixed, pairs};
 
 pub fn run(comparer: &mut Comparer, nodes: usize, progress: &mut dyn FnMut(&Comparer)) {
     let texts = vec![
@@ -17,6 +17,7 @@ pub fn run(comparer: &mut Comparer, nodes: usize, progress: &mut dyn FnMut(&Comp
         documents(comparer, &mut tables, count, progress);
     }
     files(comparer, progress);
+    pairs::run(comparer, progress);
 }
 
 fn documents(comparer: &mut Comparer, tables: &mut Tables, left: usize, progress: &mut dyn FnMut(&Comparer)) {

@@ -1,6 +1,7 @@
 //! `differential --seed S --cases N`: random files on the model, the reference, brute force and our library (`--document I`: the one
 //! document of that number again).
-//! `differential exhaustive --nodes N`: all documents of up to N nodes over a small alphabet, and all files one byte away from a few.
+//! `differential exhaustive --nodes N`: all documents of up to N nodes over a small alphabet, all files one byte away from a few, and all pairs.
+//! `differential pairs`: every map byte beside every kind byte.
 //! `differential report --rows N --seed S`: prints the file of a report of N rows, made by prepare.rs, in hexadecimal.
 //! `differential bench`: times of ours and of the reference on the same files; `--part P --rows N --width W --times T` does one part of the
 //! work T times and prints nothing, for a count of instructions (see bench.rs).
@@ -16,6 +17,7 @@ mod fixed;
 #[cfg(feature = "ours")]
 mod greatest;
 mod ours;
+mod pairs;
 mod sample;
 mod shrink;
 
@@ -83,11 +85,24 @@ fn run() -> i32 {
         }
     };
     fixed_cases(&mut comparer);
-    if arguments.first().is_some_and(|word| word == "exhaustive") {
-        let nodes = value("--nodes").unwrap_or(3) as usize;
-        exhaustive::run(&mut comparer, nodes, &mut |comparer| progress(comparer, ""));
+    let mut so_far = |comparer: &Comparer| progress(comparer, "");
+    let all = match arguments.first().map(String::as_str) {
+        Some("exhaustive") => {
+            let nodes = value("--nodes").unwrap_or(3) as usize;
+            exhaustive::run(&mut comparer, nodes, &mut so_far);
+            Some(format!(
+                "all documents of up to {nodes} nodes; all files one byte away from, or cut out of, the fixed ones; all pairs of map and kind"
+            ))
+        }
+        Some("pairs") => {
+            pairs::run(&mut comparer, &mut so_far);
+            Some("all pairs of map and kind".to_string())
+        }
+        _ => None,
+    };
+    if let Some(all) = all {
         eprintln!();
-        println!("all documents of up to {nodes} nodes; all files one byte away from, or cut out of, the fixed ones");
+        println!("{all}");
         report(&comparer, seed, start);
         return i32::from(comparer.tally.differences > 0);
     }
@@ -140,8 +155,14 @@ fn report(comparer: &Comparer, seed: u64, start: Instant) {
         tally.enumerated, tally.layouts, tally.ties
     );
     println!(
-        "documents made by prepare.rs {} (with {} choice lists), damaged files {}, texts not UTF-8 {}, overflow past 2^64 {}, limits just met and just missed {}",
-        tally.prepared, tally.prepared_lists, tally.damaged, tally.masked, tally.past_64, tally.limit_checks
+        "documents made by prepare.rs {} (with {} choice lists), damaged files {}, pairs of map and kind {}, texts not UTF-8 {}, overflow past 2^64 {}, limits just met and just missed {}",
+        tally.prepared,
+        tally.prepared_lists,
+        tally.damaged,
+        tally.pairs,
+        tally.masked,
+        tally.past_64,
+        tally.limit_checks
     );
     println!(
         "11 by reason: column {}, indent {}, overflow {}, burden {}; largest frontier {}; frontiers presented alone {}",
