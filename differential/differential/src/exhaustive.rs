@@ -1,5 +1,5 @@
-//! All documents of a few nodes over a small alphabet, under all small settings; and all files that differ in one byte, or are cut short,
-//! from a few small ones; and every map byte beside every kind byte.
+//! All documents of a few nodes over a small alphabet, under all small settings; all files that differ in one byte, or are cut short, from a
+//! few small ones; every map byte beside every kind byte.
 
 use common::{kind, Limits, Node, Settings, Sizes, Tables, Text};
 
