@@ -6,6 +6,7 @@ pub mod Ready
 pub mod Faults
 pub mod Exactly
 pub mod Demand
+pub mod Filed
 pub mod Worked
 pub mod Starred
 pub mod Cases

@@ -13,7 +13,7 @@ use Rattle.machine.specs.Model.{PlanEmpty, Made, Scratch, scratch, blank-state,
 use Rattle.machine.specs.Solver.{present, present-all, ranked}
 use Rattle.machine.specs.Answer.{Answer, paged, refused}
 use Rattle.answer.specs.Answer.{Settings, Answers}
-use Rattle.answer.specs.Worked.{bytes-of, tried, sound, worked, page-bounds, counted}
+use Rattle.answer.specs.Worked.{bytes-of, tried, sound, texted, worked, page-bounds, counted}
 
 -- ---- the files, a record a line: header, nodes, edges, texts (the first is the space)
 
@@ -158,7 +158,7 @@ abbrev line-tables : Tables
 line-tables = tables (node 3 0 0 ∷ node 7 3 0 ∷ []) [] [] (space ∷ []) (32 ∷ []) 0 1 0
 
 pub all-starred : Every starred
-unfolding bytes-of sound tried cheap cheaper covers presented present present-all
+unfolding bytes-of sound texted tried cheap cheaper covers presented present present-all
 all-starred =
     worked empty-tables refl refl refl refl refl
     also worked ab-tables refl refl refl refl refl

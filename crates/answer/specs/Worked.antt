@@ -19,6 +19,10 @@ use Rattle.file_form.specs.Form.{formFault, tablesOf}
 use Rattle.file_encode.specs.Encode.{mapOf, headerMap, encHeader, nodeMap, encNode, textMap, encText, encTexts, each, encode, lengths, Sized}
 use Rattle.file_encode.specs.Faults.{nodeRight, nodesFault, textsFault, headerFault, tablesFault}
 use Rattle.file_encode.specs.Trips.{reads-back}
+use Rattle.file_utf8.specs.Bytewise.{low, high, well}
+use Rattle.file_utf8.specs.Bytewise.{more as more-bytes}
+use Rattle.file_utf8.specs.Bytewise.{rest as rest-bytes}
+use Rattle.file_utf8.specs.Rows.{utf8-well}
 use Rattle.file_checks.specs.References.{Child, of-group, of-nest, of-align, preferred, alternative, of-annotate, of-penalty, Ranged, seq, fill, lengths-of, Named, References}
 use Rattle.file_checks.specs.Texts.{TextsOk, SpaceOk, text-bytes}
 use Rattle.file_checks.specs.Circle.{Refers, child, edge, flat-of-child, Leads, one, more, Circle}
@@ -112,24 +116,18 @@ row-tests t i row = only (eqb (kind row) 1) (ltb (first row) (length (t .texts))
     ∷ eqb (length row) 8
     ∷ []
 
-abbrev no-ten : List ℕ → ℕ → Bool
-no-ten bytes k = not (eqb (getD bytes k 0) 10)
-
-abbrev text-tests : Tables → ℕ → List Bool
-text-tests t i = eqb (length (getD (t .texts) i [])) 3 ∷ all-below (length (text-bytes (t .texts) (t .bytes) i)) (no-ten (text-bytes (t .texts) (t .bytes) i)) ∷ []
-
 abbrev row-sound : Tables → ℕ → Bool
 row-sound t i = all (row-tests t i (node-row t i))
 
-abbrev text-sound : Tables → ℕ → Bool
-text-sound t i = all (text-tests t i)
+abbrev text-sized : Tables → ℕ → Bool
+text-sized t i = eqb (length (getD (t .texts) i [])) 3
 
 abbrev edge-in : Tables → ℕ → Bool
 edge-in t k = ltb (getD (t .edges) k 0) (length (t .nodes))
 
 abbrev tests : Tables → List Bool
 tests t = all-below (length (t .nodes)) (row-sound t)
-    ∷ all-below (length (t .texts)) (text-sound t)
+    ∷ all-below (length (t .texts)) (text-sized t)
     ∷ all-below (length (t .edges)) (edge-in t)
     ∷ eqb (length (t .choices)) 0
     ∷ eqb (length (t .bytes)) (lengths (t .texts))
@@ -138,12 +136,23 @@ tests t = all-below (length (t .nodes)) (row-sound t)
     ∷ eqb (tablesFault t) 0
     ∷ []
 
--- neither 3 or 4 nor 6, 7, 9 or 10
+-- neither 3 or 4 nor 6, 9 or 10
 unfoldable pub sound : Tables → Bool
 unfolding named hasFirst hasSecond mapRight pairRight mapOf nodeMap nodeRight nodesFault textsFault headerFault tablesFault lengths
 sound t = all (tests t)
 
--- nor 8
+-- nor 7
+abbrev no-ten : List ℕ → ℕ → Bool
+no-ten bytes k = not (eqb (getD bytes k 0) 10)
+
+abbrev text-ok : List ℕ → Bool
+text-ok bytes = both (all-below (length bytes) (no-ten bytes)) (well bytes)
+
+unfoldable pub texted : Tables → Bool
+unfolding more-bytes low high rest-bytes
+texted t = all-below (length (t .texts)) (λ i. text-ok (text-bytes (t .texts) (t .bytes) i))
+
+-- neither 7 nor 8
 abbrev space-bytes : Tables → List ℕ
 space-bytes t = text-bytes (t .texts) (t .bytes) (t .space)
 
@@ -151,7 +160,7 @@ abbrev space-tests : Tables → List Bool
 space-tests t = eqb (width (getD (t .texts) (t .space) [])) 1 ∷ eqb (length (space-bytes t)) 1 ∷ eqb (getD (space-bytes t) 0 0) 32 ∷ []
 
 abbrev pub spaced : Tables → Bool
-spaced t = all (space-tests t)
+spaced t = both (texted t) (all (space-tests t))
 
 -- nor 1
 abbrev pub ordered : Settings → Bool
@@ -192,7 +201,6 @@ row-is t i e =
 record TablesSound (t : Tables) : Type 0 where
   rows : (i : ℕ) → i < length (t .nodes) → RowSound t i (node-row t i)
   sized : Sized t
-  texts : TextsOk (t .texts) (t .bytes)
   edges : (k : ℕ) → k < length (t .edges) → getD (t .edges) k 0 < length (t .nodes)
   no-choices : length (t .choices) ≡ 0
   root : t .root < length (t .nodes)
@@ -203,16 +211,15 @@ tables-are : (t : Tables) → sound t ≡ true → TablesSound t
 unfolding sound
 tables-are t e =
     let test = all-at (tests t) e in
-    let texts-at : (i : ℕ) → i < length (t .texts) → text-sound t i ≡ true = at-below (length (t .texts)) (text-sound t) (test 1) in
+    let texts-at : (i : ℕ) → i < length (t .texts) → text-sized t i ≡ true = at-below (length (t .texts)) (text-sized t) (test 1) in
     let rows-at : (i : ℕ) → i < length (t .nodes) → RowSound t i (node-row t i) = λ i h. row-is t i (at-below (length (t .nodes)) (row-sound t) (test 0) i h) in
     record {
       rows = rows-at;
       sized = record {
         node-rows = λ i h. rows-at i h .words;
-        text-rows = λ i h. eqb-true _ _ (all-at (text-tests t i) (texts-at i h) 0);
+        text-rows = λ i h. eqb-true _ _ (texts-at i h);
         bytes = eqb-true _ _ (test 4);
       };
-      texts = record { each = λ i h. record { no-newline = λ k l. eqb-false _ _ (not-true _ (at-below (length (text-bytes (t .texts) (t .bytes) i)) (no-ten (text-bytes (t .texts) (t .bytes) i)) (all-at (text-tests t i) (texts-at i h) 1) k l)) } };
       edges = λ k h. ltb-true _ _ (at-below (length (t .edges)) (edge-in t) (test 2) k h);
       no-choices = eqb-true _ _ (test 3);
       root = ltb-true _ _ (test 5);
@@ -225,12 +232,22 @@ only-byte [] e f = absurd (omega arith)
 only-byte (x ∷ []) e f = ap (λ (y : ℕ). y ∷ []) f
 only-byte (x ∷ y ∷ l) e f = absurd (omega arith)
 
-space-is : (t : Tables) → spaced t ≡ true → SpaceOk (t .texts) (t .bytes) (t .space)
+pub texts-right : (t : Tables) → texted t ≡ true → TextsOk (t .texts) (t .bytes)
+unfolding texted
+texts-right t e =
+    record {
+      each = λ i h.
+          let bytes = text-bytes (t .texts) (t .bytes) i in
+          let b = both-true (all-below (length bytes) (no-ten bytes)) (well bytes) (at-below (length (t .texts)) (λ j. text-ok (text-bytes (t .texts) (t .bytes) j)) e i h) in
+          record { no-newline = record { none = λ k l. eqb-false _ _ (not-true _ (at-below (length bytes) (no-ten bytes) (b .0) k l)) }; well-formed = utf8-well bytes .1 (b .1) };
+    }
+
+space-is : (t : Tables) → all (space-tests t) ≡ true → SpaceOk (t .texts) (t .bytes) (t .space)
 space-is t e =
     let test = all-at (space-tests t) e in
     record { wide = eqb-true _ _ (test 0); byte = only-byte (space-bytes t) (eqb-true _ _ (test 1)) (eqb-true _ _ (test 2)) }
 
--- ---- so 6, 9 and 10 do not hold of them, and where the space text is one 7 and 8 neither
+-- ---- so 6, 9 and 10 do not hold of them
 
 module _ (t : Tables) (z : TablesSound t) where
   child-below : (i j : ℕ) → i < length (t .nodes) → Child (node-row t i) j → j < i
@@ -291,9 +308,9 @@ pub file-read : (t : Tables) (file : List ℕ) → bytes-of t ≡ file → sound
 unfolding bytes-of
 file-read t file e s = let z = tables-are t s in let r = reads-back t (z .sized) (z .fine) in (ap formFault (sym e) ∙ r .fine, ap tablesOf (sym e) ∙ r .tables)
 
--- neither 6 nor 7
-pub references-right : (t : Tables) → sound t ≡ true → References t × TextsOk (t .texts) (t .bytes)
-references-right t s = (references t (tables-are t s), tables-are t s .texts)
+-- nor is it 6
+pub references-right : (t : Tables) → sound t ≡ true → References t
+references-right t s = references t (tables-are t s)
 
 -- the file is accepted, and the answer to a call is that of solver and materializer on the tables
 pub worked :
@@ -303,7 +320,8 @@ unfolding tried
 worked t {file} {c} {b} e s p o q =
     let r = file-read t file e s in
     let z = tables-are t s in
-    let j = accepted (record { references = references t z; texts = z .texts; space = space-is t p; no-circle = no-circle t z; lists = lists t z }) in
+    let x = both-true (texted t) (all (space-tests t)) p in
+    let j = accepted (record { references = references t z; texts = texts-right t (x .0); space = space-is t (x .1); no-circle = no-circle t z; lists = lists t z }) in
     let w = both-true (leb 1 (c .width)) (leb (c .policy) 1) o in
     subst (λ (x : Answer). Answers (Unit {0}) file c b x) q
     (subst (λ (x : Tables). Answers (Unit {0}) file c b (answer (rules-of c) (prepared x) b)) (r .1)

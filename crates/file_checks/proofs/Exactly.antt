@@ -9,10 +9,11 @@ use native.Mathlib.Omega.{arith}
 use native.Mathlib.Decide.{ℕ-discrete, decLt}
 use lib.ListN.{length, getD}
 use Rattle.file_tables.specs.Tables.{Tables, kind, first, second, flat, flat-mark, flat-word, choice-start, choice-length, skipped, width}
+use Rattle.file_utf8.specs.Rows.{utf8?}
 use Rattle.file_checks.specs.declared.Lengths.{Lengths}
 use Rattle.file_checks.specs.Told.{Told}
 use Rattle.file_checks.specs.References.{lengths-of, seq, fill, KindNamed, Named, RowsNamed, Numbers, References}
-use Rattle.file_checks.specs.Texts.{TextOk, text-bytes, TextsOk, SpaceOk}
+use Rattle.file_checks.specs.Texts.{NoNewline, TextOk, text-bytes, TextsOk, SpaceOk}
 use Rattle.file_checks.specs.Circle.{Circle}
 use Rattle.file_checks.specs.Choice.{two, choice-list, Comes, ListsRight}
 use Rattle.file_checks.specs.Search.{Cut, done, keep, split}
@@ -106,10 +107,16 @@ not? : {P : Type 0} → Dec P → Dec (P → ⊥)
 not? (yes p) = no (λ n. n p)
 not? (no n) = yes n
 
+no-newline? : (bytes : List ℕ) → Dec (NoNewline bytes)
+no-newline? bytes =
+    by-cases (all? (λ k. getD bytes k 0 ≡ 10 → ⊥) (length bytes) (λ k h. not? (ℕ-discrete (getD bytes k 0) 10)))
+    (λ a. yes (record { none = a })) (λ a. no (λ z. a (z .none)))
+
 text-ok? : (bytes : List ℕ) → Dec (TextOk bytes)
 text-ok? bytes =
-    by-cases (all? (λ k. getD bytes k 0 ≡ 10 → ⊥) (length bytes) (λ k h. not? (ℕ-discrete (getD bytes k 0) 10)))
-    (λ a. yes (record { no-newline = a })) (λ a. no (λ z. a (z .no-newline)))
+    by-cases (no-newline? bytes)
+    (λ a. by-cases (utf8? bytes) (λ u. yes (record { no-newline = a; well-formed = u })) (λ u. no (λ z. u (z .well-formed))))
+    (λ a. no (λ z. a (z .no-newline)))
 
 texts-ok? : (texts : List (List ℕ)) (bytes : List ℕ) → Dec (TextsOk texts bytes)
 texts-ok? texts bytes =

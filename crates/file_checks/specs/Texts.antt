@@ -1,13 +1,19 @@
--- Document 01, refusals 7 (text) and 8 (space).
+-- Document 01, refusals 7 (text; document 02, change 1) and 8 (space).
 use Prim.Native.Nat.{ℕ, _+_, _≤_, _<_}
 use mathlib.Core.Path.{_≡_}
 use mathlib.Core.List.{List, [], _∷_}
 use lib.ListN.{length, getD, take, drop}
 use Rattle.file_tables.specs.Tables.{width, byte-length, byte-start}
+use Rattle.file_utf8.specs.Utf8.{Utf8}
 
--- a text's own rule, of its bytes alone: no byte 10
+-- no byte 10
+pub record NoNewline (bytes : List ℕ) : Type 0 where
+  pub none : (k : ℕ) → k < length bytes → getD bytes k 0 ≡ 10 → ⊥
+
+-- a text's own rule, of its bytes alone
 pub record TextOk (bytes : List ℕ) : Type 0 where
-  pub no-newline : (k : ℕ) → k < length bytes → getD bytes k 0 ≡ 10 → ⊥
+  pub no-newline : NoNewline bytes
+  pub well-formed : Utf8 bytes
 
 -- the bytes of text i
 abbrev pub text-bytes : List (List ℕ) → List ℕ → ℕ → List ℕ

@@ -2,13 +2,13 @@
 ghost use Prim.Native.Nat.{_<_};
 ghost use lib.ListN.{length};
 ghost use Rattle.file_checks.specs.Told.{Told};
-ghost use Rattle.file_checks.specs.Texts.{TextOk, TextsOk, SpaceOk, Inside};
+ghost use Rattle.file_checks.specs.Texts.{NoNewline, TextOk, TextsOk, SpaceOk, Inside};
 use file_tables::TextId;
 use file_tables::text_word;
+use file_utf8::well_formed;
 
-// Whether a text follows its own rule.
-pub fn text_ok(text: &[u8]) -> bool
-    ensures { λ r. ⌜ Told (TextOk (now (text .entry))) r ⌝ }
+fn no_newline(text: &[u8]) -> bool
+    ensures { λ r. ⌜ Told (NoNewline (now (text .entry))) r ⌝ }
 {
     let mut k: usize = 0;
     while k < text.len() {
@@ -18,6 +18,16 @@ pub fn text_ok(text: &[u8]) -> bool
         k += 1;
     }
     true
+}
+
+// Whether a text follows its own rule.
+pub fn text_ok(text: &[u8]) -> bool
+    ensures { λ r. ⌜ Told (TextOk (now (text .entry))) r ⌝ }
+{
+    if !no_newline(text) {
+        return false;
+    }
+    well_formed(text)
 }
 
 pub fn texts_ok(texts: &[[u32; 3]], bytes: &[u8]) -> bool

@@ -199,7 +199,7 @@ fn read_words(a: Answer, was: [u32; 8]) -> [u32; 8]
     }
 }
 
-// A file into lent tables.
+// A file into lent tables. A text that is not UTF-8 (RFC 3629) is refused by 7, like one with byte 10; so too below.
 #[no_mangle]
 pub extern "C" fn gannozhi_read(
     file: &[u8],

@@ -209,11 +209,11 @@ fn short() {
     ends(&out);
 }
 
-// Room for all and one byte more, which stays.
-fn enough() {
+// Room for all and one byte more, which stays. Where the space text is no text, all stay.
+fn enough(space: u8) {
     let nodes = [[0u32, 0, 0, 0, 0, 0, 0, 0]; 1];
     let texts = [[1u32, 1, 0]; 1];
-    let bytes = [32u8; 1];
+    let bytes = [space; 1];
     let numbers = [0u32; 1];
     let mut out = [7u8; 22];
     say(write(
@@ -237,5 +237,7 @@ fn main() {
     limits();
     totals();
     short();
-    enough();
+    enough(32);
+    enough(128);
+    enough(255);
 }

@@ -1,50 +1,20 @@
 use borrow.Author.Needs.{needs}
-use Rattle.file_checks.specs.Tells.{tell-yes, tell-no}
-use borrow.Author.Count.{below-more}
-use lib.ListN.{length, getD}
-use Prim.Native.Nat.{ℕ, _-_, _≤_, _<_}
-use mathlib.Core.Path.{_≡_}
-use native.Mathlib.Omega.{arith}
+use borrow.Author.Tests.{not-true, not-false}
+use Rattle.file_checks.specs.Tells.{tell-no, tell-same}
 use Rattle.file_checks.proofs.texts.text_ok.Statement.{statement}
 use Rattle.file_checks.proofs.texts.text_ok.Tie as tie
 
-abbrev Inv-loop : tie.InvT-loop
-Inv-loop text k₀ k = (k ≤ length text) × ((m : ℕ) → m < k → getD text m 0 ≡ 10 → ⊥)
+no-newline-requires : tie.Need-no-newline-requires
+no-newline-requires c κs = search needs
 
-abbrev μ-loop : tie.MeasureT-loop
-μ-loop text k₀ k = length text - k
+returns : tie.Need-returns
+returns c = tell-no (λ z. c .before .no-newline .ensures .no (not-true _ (c .if1 .taken)) (z .no-newline))
 
-loop-holds : tie.Need-loop-holds Inv-loop μ-loop
-loop-holds c = (omega arith, λ m h. absurd (omega arith))
+well-formed-requires : tie.Need-well-formed-requires
+well-formed-requires c κs = search needs
 
-shared-slice-read-if1 : tie.Need-shared-slice-read-if1 Inv-loop μ-loop
-shared-slice-read-if1 c = search needs
-
-returns : tie.Need-returns Inv-loop μ-loop
-returns c = tell-no (λ z. z .no-newline (c .before .before .before .loop .k) (c .before .before .loop-test .taken) (c .if1 .taken))
-
-add-k : tie.Need-add-k Inv-loop μ-loop
-add-k c = search needs
-
-loop-less : tie.Need-loop-less Inv-loop μ-loop
-loop-less c = search needs
-
-loop-again : tie.Need-loop-again Inv-loop μ-loop
-loop-again c = (omega arith, below-more _ _ (c .before .before .before .loop .inv .1) (c .if1 .left))
-
-returns-2 : tie.Need-returns-2 Inv-loop μ-loop
-returns-2 c = tell-yes (record { no-newline = λ k h. c .before .loop .inv .1 k (omega arith) })
+returns-2 : tie.Need-returns-2
+returns-2 c = tell-same (λ u. record { no-newline = c .before .before .no-newline .ensures .yes (not-false _ (c .before .if1 .left)); well-formed = u }) (λ z. z .well-formed) (c .well-formed .ensures)
 
 pub text-ok-spec : {M : Type 1} → statement M
-text-ok-spec =
-    tie.close
-    (tie.spec
-    Inv-loop
-    μ-loop
-    loop-holds
-    shared-slice-read-if1
-    returns
-    add-k
-    loop-less
-    loop-again
-    returns-2)
+text-ok-spec = tie.close (tie.spec no-newline-requires returns well-formed-requires returns-2)

@@ -1,0 +1,9 @@
+pub mod Told
+pub mod Tells
+pub mod Utf8
+pub mod Bytewise
+pub mod Rows
+pub mod Numbers
+pub mod Joined
+pub mod Follows
+pub mod Cases
