@@ -62,6 +62,23 @@ def bit(m, k):
     return m >> k & 1 == 1
 
 
+# 1.5: first bytes, how many bytes follow, and between which the next one is
+CHARACTERS = [(0x00, 0x7f, 0, 0, 0), (0xc2, 0xdf, 1, 0x80, 0xbf), (0xe0, 0xe0, 2, 0xa0, 0xbf), (0xe1, 0xec, 2, 0x80, 0xbf), (0xed, 0xed, 2, 0x80, 0x9f),
+              (0xee, 0xef, 2, 0x80, 0xbf), (0xf0, 0xf0, 3, 0x90, 0xbf), (0xf1, 0xf3, 3, 0x80, 0xbf), (0xf4, 0xf4, 3, 0x80, 0x8f)]
+
+
+def well_formed(text):
+    while text:
+        row = [row for row in CHARACTERS if row[0] <= text[0] <= row[1]]
+        if not row:
+            return False
+        more, low, high = row[0][2:]
+        after, text = text[1:1 + more], text[1 + more:]
+        if len(after) < more or not all(0x80 <= b <= 0xbf for b in after[1:]) or not all(low <= b <= high for b in after[:1]):
+            return False
+    return True
+
+
 class File:
     def __init__(self, data, start=0):
         r = Reader(data, start)
@@ -136,7 +153,7 @@ class File:
             named.append(n.flat is None or n.flat < there)
             named.append(n.length == 0 or n.start + n.length <= len(self.choices))
         refuse_if(not all(named), 6)
-        refuse_if(any(10 in t for _, t in self.texts), 7)
+        refuse_if(any(10 in t or not well_formed(t) for _, t in self.texts), 7)
         refuse_if(self.texts[self.space] != (1, b' '), 8)
         state = [0] * there
         for n in range(there):

@@ -123,7 +123,7 @@ enum {
 };
 
 /* A file into lent tables: 0, or the number of the refusal (1 to 10), which leaves the counts unaltered. Past its count a table holds
- * anything, and after a refusal it does from its start. */
+ * anything, and after a refusal it does from its start. Each text is well-formed UTF-8 (RFC 3629) without byte 10, or the refusal is 7. */
 uint32_t gannozhi_read(
     const uint8_t *file, size_t file_length,
     uint32_t (*nodes)[8], size_t nodes_length,
@@ -135,7 +135,8 @@ uint32_t gannozhi_read(
 
 /* The one file that reads back to the counts and the tables, which stay as they are: 0, or the number of the refusal (1, 3, 4, 6 to 10, 20).
  * `size` is then the number of bytes written, or for 20 needed, else 0. A refusal alters no byte of `out`; past the file they are unaltered.
- * Of `bytes` as many are taken as the texts' lengths say together. */
+ * Of `bytes` as many are taken as the texts' lengths say together; each text by itself is well-formed UTF-8 (RFC 3629) without byte 10, or
+ * the refusal is 7. */
 uint32_t gannozhi_write(
     const uint32_t counts[GANNOZHI_FILE_COUNTS],
     uint32_t (*nodes)[8], size_t nodes_length,

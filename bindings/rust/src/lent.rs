@@ -141,7 +141,7 @@ impl From<TableCounts> for FileCounts {
     }
 }
 
-/// The file's tables, up to the counts; or the number of the refusal (1 to 10).
+/// The file's tables, up to the counts; or the number of the refusal (1 to 10; 7 where a text has a byte 10 or is not UTF-8 by RFC 3629).
 pub fn read_lent(file: &[u8], tables: TableMemory) -> Result<TableCounts, u32> {
     let mut words = [0u32; 8];
     // SAFETY: as in `render_lent`.
@@ -183,6 +183,7 @@ pub struct FileTables<'a> {
 /// How many bytes were written; or the number of the refusal and, for 20, how many bytes the file has.
 pub type Written = Result<usize, (u32, usize)>;
 
+/// The file of the tables. It is refused as the reader would refuse it: by 7 where a text has a byte 10 or is not UTF-8 by RFC 3629.
 pub fn write_lent(tables: FileTables, out: &mut [u8]) -> Written {
     let n = tables.counts;
     let words = [n.nodes, n.edges, n.choices, n.texts, n.annotations, n.root, n.space];

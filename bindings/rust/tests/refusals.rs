@@ -59,6 +59,8 @@ fn of_the_file() {
         (6, format!("{H} 0101 01000000 {SP}")),
         // a text with byte 10
         (7, format!("{H} 0000 03 01000000 01000000 0a")),
+        // a text that is not UTF-8
+        (7, format!("{H} 0000 03 01000000 01000000 80")),
         // the space text has width 2
         (8, format!("{H} 0000 03 02000000 01000000 20")),
         // an Align of itself

@@ -30,7 +30,11 @@ pub struct Tally {
     pub damaged: u64,
     /// Files and tables with a pair of map byte and kind byte.
     pub pairs: u64,
-    pub masked: u64,
+    /// Texts that were held to `std`, and those of them with a byte above 127: well formed, ill.
+    pub texts: u64,
+    pub wide_texts: [u64; 2],
+    /// Files with a text damaged.
+    pub ill: u64,
     pub past_64: u64,
     pub limit_checks: u64,
     /// Domain refusals by reason: column, indent, overflow, burden.
@@ -129,6 +133,21 @@ impl Comparer {
         modelled
     }
 
+    /// Which texts are well formed: the model, held to the standard library.
+    fn texts(&mut self, tables: &Tables) {
+        for text in &tables.texts {
+            let well = model::utf8::well_formed(&text.bytes);
+            self.tally.texts += 1;
+            if !text.bytes.is_ascii() {
+                self.tally.wide_texts[usize::from(!well)] += 1;
+            }
+            if well != std::str::from_utf8(&text.bytes).is_ok() {
+                self.tally.differences += 1;
+                println!("DIFFERENCE: std, model: a text\n{}\nmodel: {well}\n", to_hex(&text.bytes));
+            }
+        }
+    }
+
     /// The model's writer, held to ours.
     pub fn write(&mut self, tables: &Tables, room: u64) -> Result<Vec<u8>, WriteRefusal> {
         let modelled = model::file::write(tables, room);
@@ -143,6 +162,9 @@ impl Comparer {
     /// The model's reader, held to ours.
     pub fn read(&mut self, file: &[u8]) -> Result<Tables, u32> {
         let modelled = model::file::read(file);
+        if let Ok(tables) = model::file::formed(file) {
+            self.texts(&tables);
+        }
         let ours = self.ours.as_mut().and_then(|ours| ours.read(file));
         if ours.as_ref().is_some_and(|ours| *ours != modelled) {
             self.tally.differences += 1;
@@ -184,7 +206,7 @@ impl Comparer {
     ) -> Option<(&'static str, Answer)> {
         if let (Some((_, document)), false) = (document, matches!(number(modelled), 12 | 22)) {
             let mut shown = reference::access::render(document, &call.settings, &call.sizes);
-            reference::access::fill_in(&mut shown, modelled, document.masked);
+            reference::access::fill_in(&mut shown, modelled);
             if shown != *modelled {
                 return Some(("reference, model", shown));
             }

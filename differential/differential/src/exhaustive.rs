@@ -1,10 +1,10 @@
 //! All documents of a few nodes over a small alphabet, under all small settings; all files that differ in one byte, or are cut short, from a
-//! few small ones; every map byte beside every kind byte.
+//! few small ones; every map byte beside every kind byte; all short texts.
 
 use common::{kind, Limits, Node, Settings, Sizes, Tables, Text};
 
 use crate::compare::{Call, Comparer, LIMITS};
-use crate::{fixed, pairs};
+use crate::{fixed, pairs, texts};
 
 pub fn run(comparer: &mut Comparer, nodes: usize, progress: &mut dyn FnMut(&Comparer)) {
     let texts = vec![
@@ -18,6 +18,7 @@ pub fn run(comparer: &mut Comparer, nodes: usize, progress: &mut dyn FnMut(&Comp
     }
     files(comparer, progress);
     pairs::run(comparer, progress);
+    texts::run(comparer, progress);
 }
 
 fn documents(comparer: &mut Comparer, tables: &mut Tables, left: usize, progress: &mut dyn FnMut(&Comparer)) {

@@ -305,5 +305,57 @@ pub fn cases() -> Vec<Case> {
         b.doubled(penalty, times);
         add(name, b.file(), settings(1, 0, 0), page, none, want);
     }
+
+    // The texts (97 to 100).
+    for (name, text) in [
+        ("97: text 00", "\0"),
+        ("97: text 7f", "\u{7f}"),
+        ("97: text c2 80", "\u{80}"),
+        ("97: text df bf", "\u{7ff}"),
+        ("97: text e0 a0 80", "\u{800}"),
+        ("97: text ed 9f bf", "\u{d7ff}"),
+        ("97: text ee 80 80", "\u{e000}"),
+        ("97: text ef bf bf", "\u{ffff}"),
+        ("97: text f0 90 80 80", "\u{10000}"),
+        ("97: text f4 8f bf bf", "\u{10ffff}"),
+        ("97: text ef bb bf", "\u{feff}"),
+        ("98: text c3 a9", "é"),
+    ] {
+        let mut b = Build::new();
+        b.text(text);
+        add(name, b.file(), usual, page, none, Page(text, 0, 0, Some(2)));
+    }
+    for (name, text) in [
+        ("97: text 80", "80"),
+        ("97: text bf", "bf"),
+        ("97: text c0 80", "c080"),
+        ("97: text c1 bf", "c1bf"),
+        ("97: text c2", "c2"),
+        ("97: text c2 41", "c241"),
+        ("97: text e0 9f bf", "e09fbf"),
+        ("97: text ed a0 80", "eda080"),
+        ("97: text ed bf bf", "edbfbf"),
+        ("97: text e2 82", "e282"),
+        ("97: text f0 8f bf bf", "f08fbfbf"),
+        ("97: text f4 90 80 80", "f4908080"),
+        ("97: text f5 80 80 80", "f5808080"),
+        ("97: text f0 9f 98", "f09f98"),
+        ("97: text ff", "ff"),
+        ("100: text e2 0a", "e20a"),
+    ] {
+        let mut b = Build::new();
+        b.0.texts.push(Text { width: 1, bytes: hex(text) });
+        b.node(kind::TEXT, 1, 0);
+        add(name, b.file(), usual, page, none, Refused(7, 0, Some(0)));
+    }
+    for (name, file, number) in [
+        ("98: texts c3 and a9", "05 01000000 03000000 0000 sp 02 01000000 c3 02 01000000 a9", 7),
+        ("99: an unused text", "05 01000000 02000000 0000 sp 02 01000000 ff", 7),
+        ("99: the space text", "h 0000 03 01000000 01000000 80", 7),
+        ("99: 6 before 7", "h 0101 01000000 03 01000000 01000000 80", 6),
+        ("99: 7 before 9", "05 01000000 02000000 0005 sp 02 01000000 80", 7),
+    ] {
+        add(name, hex(file), usual, page, none, Refused(number, 0, Some(0)));
+    }
     list
 }

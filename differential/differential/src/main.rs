@@ -1,7 +1,8 @@
 //! `differential --seed S --cases N`: random files on the model, the reference, brute force and our library (`--document I`: the one
 //! document of that number again).
-//! `differential exhaustive --nodes N`: all documents of up to N nodes over a small alphabet, all files one byte away from a few, and all pairs.
+//! `differential exhaustive --nodes N`: all documents of up to N nodes over a small alphabet, all files one byte away from a few, all pairs and texts.
 //! `differential pairs`: every map byte beside every kind byte.
+//! `differential texts`: all texts of up to 2 bytes, and of 3 and 4 over the bytes where the rule of texts changes.
 //! `differential report --rows N --seed S`: prints the file of a report of N rows, made by prepare.rs, in hexadecimal.
 //! `differential bench`: times of ours and of the reference on the same files; `--part P --rows N --width W --times T` does one part of the
 //! work T times and prints nothing, for a count of instructions (see bench.rs).
@@ -20,6 +21,7 @@ mod ours;
 mod pairs;
 mod sample;
 mod shrink;
+mod texts;
 
 use std::time::Instant;
 
@@ -91,12 +93,16 @@ fn run() -> i32 {
             let nodes = value("--nodes").unwrap_or(3) as usize;
             exhaustive::run(&mut comparer, nodes, &mut so_far);
             Some(format!(
-                "all documents of up to {nodes} nodes; all files one byte away from, or cut out of, the fixed ones; all pairs of map and kind"
+                "all documents of up to {nodes} nodes; all files one byte away from, or cut out of, the fixed ones; all pairs of map and kind; all short texts"
             ))
         }
         Some("pairs") => {
             pairs::run(&mut comparer, &mut so_far);
             Some("all pairs of map and kind".to_string())
+        }
+        Some("texts") => {
+            texts::run(&mut comparer, &mut so_far);
+            Some("all short texts".to_string())
         }
         _ => None,
     };
@@ -155,14 +161,17 @@ fn report(comparer: &Comparer, seed: u64, start: Instant) {
         tally.enumerated, tally.layouts, tally.ties
     );
     println!(
-        "documents made by prepare.rs {} (with {} choice lists), damaged files {}, pairs of map and kind {}, texts not UTF-8 {}, overflow past 2^64 {}, limits just met and just missed {}",
+        "documents made by prepare.rs {} (with {} choice lists), damaged files {}, pairs of map and kind {}, overflow past 2^64 {}, limits just met and just missed {}",
         tally.prepared,
         tally.prepared_lists,
         tally.damaged,
         tally.pairs,
-        tally.masked,
         tally.past_64,
         tally.limit_checks
+    );
+    println!(
+        "texts {}, with bytes above 127: well formed {}, ill {}; files with a text damaged {}",
+        tally.texts, tally.wide_texts[0], tally.wide_texts[1], tally.ill
     );
     println!(
         "11 by reason: column {}, indent {}, overflow {}, burden {}; largest frontier {}; frontiers presented alone {}",
@@ -226,6 +235,12 @@ pub fn accepted(rng: &mut Rng, tally: &mut compare::Tally) -> (Tables, Option<Pr
     (generate::files::tables(rng, profile), Some(profile))
 }
 
+/// For one document in thirty its tables with a text that is most often no UTF-8. It has a generator of its own, so the others go on as without it.
+pub fn ill_texts(seed: u64, index: u64, tables: &Tables) -> Option<Tables> {
+    let mut rng = Rng::of_case(!seed, index);
+    rng.chance(30).then(|| generate::damage::texts(&mut rng, tables))
+}
+
 fn document(comparer: &mut Comparer, seed: u64, index: u64) {
     let mut rng = Rng::of_case(seed, index);
     let rng = &mut rng;
@@ -252,8 +267,12 @@ fn document(comparer: &mut Comparer, seed: u64, index: u64) {
     if rng.chance(4) {
         damaged(comparer, rng, &call, &tables);
     }
+    if let Some(tables) = ill_texts(seed, index, &tables) {
+        comparer.tally.ill += 1;
+        refused_alike(comparer, &tables);
+        damaged_file(comparer, &Call { file: &model::file::bytes(&tables), sizes: Sizes::PAGE, ..call });
+    }
     let reference = reference::access::document(&tables);
-    comparer.tally.masked += u64::from(reference.masked);
     let both = Some((&tables, &reference));
     // Without the reference: what is needed, as far as the limits let it come.
     let (probe, trace) = model::render(&tables, &settings, &PROBE, &LIMITS);

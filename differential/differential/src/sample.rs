@@ -22,7 +22,7 @@ use crate::compare::{counts, number, Tally};
 use crate::fixed;
 
 /// How many of each answer: a page, then the refusals 1 to 22.
-const SHARE: [usize; 23] = [90, 3, 12, 14, 10, 6, 14, 6, 6, 8, 12, 16, 12, 14, 12, 12, 12, 12, 12, 10, 14, 10, 10];
+const SHARE: [usize; 23] = [90, 3, 12, 14, 10, 6, 14, 14, 6, 8, 12, 16, 12, 14, 12, 12, 12, 12, 12, 10, 14, 10, 10];
 const LONGEST_FILE: usize = 420;
 const LONGEST_PAGE: usize = 240;
 
@@ -40,16 +40,21 @@ pub fn print(seed: u64) {
     let mut index = 0;
     while sample.left.iter().any(|left| *left > 0) && index < 200_000 {
         sample.name = format!("random {index}");
-        document(&mut sample, &mut Rng::of_case(seed, index));
+        document(&mut sample, seed, index);
         index += 1;
     }
 }
 
-fn document(sample: &mut Sample, rng: &mut Rng) {
+fn document(sample: &mut Sample, seed: u64, index: u64) {
+    let rng = &mut Rng::of_case(seed, index);
     let (tables, profile) = crate::accepted(rng, &mut Tally::default());
     let settings = generate::settings(rng, profile.is_some_and(|profile| profile.extreme()));
     let file = model::file::bytes(&tables);
     let limits = Limits { work: 20_000, visits: 20_000 };
+    if let Some(tables) = crate::ill_texts(seed, index, &tables) {
+        let file = model::file::bytes(&tables);
+        take(sample, &mut rng.clone(), &file, &settings, &Sizes::PAGE, &limits);
+    }
     if rng.chance(4) {
         let file = generate::damage::file(rng, &file);
         let mut settings = settings;
@@ -119,7 +124,7 @@ fn show(name: &str, file: &[u8], settings: &Settings, sizes: &Sizes, limits: &Li
         let tables = model::file::read(file).expect("an accepted file");
         let document = reference::access::document(&tables);
         let mut shown = reference::access::render(&document, settings, sizes);
-        reference::access::fill_in(&mut shown, &modelled, document.masked);
+        reference::access::fill_in(&mut shown, &modelled);
         shown
     };
     let words = |list: &[u64]| list.iter().map(u64::to_string).collect::<Vec<_>>().join(" ");
@@ -161,6 +166,9 @@ pub fn print_page(seed: u64) {
         "03 50000000 0000",
         "03 50000000 00000000",
         "07 03000000 01000000",
+        "01 50000000 05 01000000 01000000 0000 03 01000000 01000000 80",
+        "01 50000000 05 01000000 02000000 0101 01000000 03 01000000 01000000 20 03 01000000 02000000 c3a9",
+        "01 50000000 05 01000000 02000000 0101 01000000 03 01000000 01000000 20 03 01000000 02000000 eda0",
     ];
     let show = |input: &[u8]| {
         println!("input {}\noutput {}\n", dash(to_hex(input)), dash(to_hex(&model::page(input))));

@@ -4,6 +4,25 @@ use common::{kind, Node, Tables, Text};
 
 use crate::Rng;
 
+/// Characters of two, three and four bytes: the least and the greatest of each length, those beside the surrogates, some that are none.
+pub const WIDE: [char; 15] = [
+    '\u{80}',
+    'é',
+    'ж',
+    '\u{7ff}',
+    '\u{800}',
+    '€',
+    '\u{d7ff}',
+    '\u{e000}',
+    '\u{feff}',
+    '\u{fffe}',
+    '\u{ffff}',
+    '\u{10000}',
+    '😀',
+    '\u{fffff}',
+    '\u{10ffff}',
+];
+
 #[derive(Clone, Copy, Debug, Eq, PartialEq)]
 pub enum Profile {
     /// A few nodes, so that all layouts can be enumerated.
@@ -101,10 +120,11 @@ impl Build {
             _ => rng.within(1, 5),
         };
         let other = rng.chance(10);
-        let bytes: Vec<u8> = (0..length)
+        let text: String = (0..length)
             .map(|_| match rng.below(256) as u8 {
-                byte if other && byte != 10 => byte,
-                byte => b'a' + byte % 26,
+                drawn if other && drawn > 127 => WIDE[usize::from(drawn) % WIDE.len()],
+                drawn if other && drawn != 10 => char::from(drawn),
+                drawn => char::from(b'a' + drawn % 26),
             })
             .collect();
         let width = match rng.below(6) {
@@ -113,7 +133,7 @@ impl Build {
             1..=4 if self.profile == Profile::Heavy => rng.pick(&[u32::MAX, u32::MAX - 1, u32::MAX - 2, 1 << 31]),
             _ => length,
         };
-        Text { width, bytes }
+        Text { width, bytes: text.into_bytes() }
     }
 
     fn push(&mut self, node: Node) -> u32 {

@@ -1,5 +1,6 @@
-//! The prepared file: reader and writer, from document 01 ("Prepared file") and docs/DECISIONS.md 1 to 15.
+//! The prepared file: reader and writer, from document 01 ("Prepared file"), document 02 (change 1) and docs/DECISIONS.md 1 to 15 and 97.
 
+use crate::utf8::well_formed;
 use common::{kind, limit, Node, Tables, Text};
 
 /// The refusal's number: 2 to 10.
@@ -104,6 +105,13 @@ impl<'a> Input<'a> {
 
 /// The tables, or the first refusal in document 01's order.
 pub fn read(file: &[u8]) -> Result<Tables, Number> {
+    let tables = formed(file)?;
+    rules(&tables)?;
+    Ok(tables)
+}
+
+/// The tables, right or not, or the first of 2 to 5.
+pub fn formed(file: &[u8]) -> Result<Tables, Number> {
     let mut input = Input { rest: file };
     let map = input.byte()?;
     if map > 127 {
@@ -129,7 +137,6 @@ pub fn read(file: &[u8]) -> Result<Tables, Number> {
     if !input.rest.is_empty() {
         return Err(SURPLUS);
     }
-    rules(&tables)?;
     Ok(tables)
 }
 
@@ -138,7 +145,7 @@ fn rules(tables: &Tables) -> Result<(), Number> {
     if !references_right(tables) {
         return Err(REFERENCE);
     }
-    if tables.texts.iter().any(|text| text.bytes.contains(&10)) {
+    if tables.texts.iter().any(|text| text.bytes.contains(&10) || !well_formed(&text.bytes)) {
         return Err(TEXT);
     }
     let space = &tables.texts[tables.space as usize];

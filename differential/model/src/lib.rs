@@ -6,6 +6,7 @@ pub mod file;
 mod materialize;
 mod page;
 mod solve;
+pub mod utf8;
 
 pub use page::page;
 

@@ -143,6 +143,6 @@ fn reference_answer(file: &[u8], settings: &Settings, sizes: &Sizes, modelled: &
     let tables = model::file::read(file).ok()?;
     let document = reference::access::document(&tables);
     let mut answer = reference::access::render(&document, settings, sizes);
-    reference::access::fill_in(&mut answer, modelled, document.masked);
+    reference::access::fill_in(&mut answer, modelled);
     Some(answer)
 }

@@ -34,17 +34,14 @@ pub(crate) fn empty_data<A>() -> PreparedData<A> {
     }
 }
 
-/// The reference holds texts as `str`. The solver and the materializer never look into a text, so where one is not UTF-8 every byte of
-/// every text keeps its 7 low bits only; `masked` says so, and the page is then to be compared under the same mask.
+/// The reference holds texts as `str`; those of an accepted file are UTF-8.
 pub struct Document {
     prepared: PreparedDoc<()>,
-    pub masked: bool,
 }
 
 /// The node table of 001 for the tables of an accepted file. The fit summaries and bounds serve the fast path alone and are left out;
 /// so is what a Break is when flat, which the exact solver does not ask.
 pub fn document(tables: &Tables) -> Document {
-    let masked = tables.texts.iter().any(|text| std::str::from_utf8(&text.bytes).is_err());
     let nodes = tables.nodes.iter().map(|node| {
         let (first, second) = (node.first, node.second);
         let child = NodeId(second);
@@ -70,13 +67,10 @@ pub fn document(tables: &Tables) -> Document {
             skipped_choices: node.skipped,
         })
     });
-    let texts = tables.texts.iter().map(|text| {
-        let bytes: Vec<u8> = text.bytes.iter().map(|byte| if masked { byte & 0x7f } else { *byte }).collect();
-        PreparedText {
-            byte_len: bytes.len(),
-            value: Arc::from(String::from_utf8(bytes).expect("UTF-8")),
-            display_width: text.width,
-        }
+    let texts = tables.texts.iter().map(|text| PreparedText {
+        byte_len: text.bytes.len(),
+        value: Arc::from(std::str::from_utf8(&text.bytes).expect("UTF-8")),
+        display_width: text.width,
     });
     let data = PreparedData {
         nodes: nodes.collect(),
@@ -91,7 +85,7 @@ pub fn document(tables: &Tables) -> Document {
         space_text: TextId(tables.space),
         bounds: PreparedBounds::default(),
     };
-    Document { prepared: PreparedDoc(Arc::new(data)), masked }
+    Document { prepared: PreparedDoc(Arc::new(data)) }
 }
 
 /// The tables of a document that prepare.rs made.
@@ -254,13 +248,9 @@ impl Bench<'_> {
     }
 }
 
-/// Takes from the model's answer what the reference cannot show: visits at a refusal; the bytes above 127 where the texts are not UTF-8
-/// and the page is right under the mask.
-pub fn fill_in(shown: &mut Answer, modelled: &Answer, masked: bool) {
-    let right = |shown: &[u8], other: &[u8]| shown.iter().copied().eq(other.iter().map(|byte| byte & 0x7f));
-    match (shown, modelled) {
-        (Err(refusal), Err(other)) => refusal.counts.visits = other.counts.visits,
-        (Ok(page), Ok(other)) if masked && right(&page.bytes, &other.bytes) => page.bytes.clone_from(&other.bytes),
-        _ => {}
+/// Takes from the model's answer what the reference cannot show: visits at a refusal.
+pub fn fill_in(shown: &mut Answer, modelled: &Answer) {
+    if let (Err(refusal), Err(other)) = (shown, modelled) {
+        refusal.counts.visits = other.counts.visits;
     }
 }
