@@ -104,20 +104,20 @@ text-of t z n =
     by-cases (decLt n (length (t .texts))) (λ h. z .each n h .well-formed)
     (λ h. let e : text-row t n ≡ [] = List·getD-eq-default (t .texts) [] (let l : length (t .texts) ≤ n = omega (arith, h) in l) in subst (λ (row : List ℕ). Utf8 (word-of-row (t .bytes) row .bytes)) (sym e) no-bytes)
 
--- the texts of a file that gets a page, and that it is ranked
-record Read (file : List ℕ) : Type 0 where
+-- what is known of a file that gets a page
+record PageFile (file : List ℕ) : Type 0 where
   texts : TextsOk (tablesOf file .texts) (tablesOf file .bytes)
   ranked : Ranked (document-of file .table)
 
-means-read : (file : List ℕ) → Bytes file → {n : FileCounts} → Means file (Accepted n) → Read file
-means-read file z (right f j) = record { texts = judged-accepted j .texts; ranked = file-ready file z f j .ranked }
+accepted-file : (file : List ℕ) → Bytes file → {n : FileCounts} → Means file (Accepted n) → PageFile file
+accepted-file file z (right f j) = record { texts = judged-accepted j .texts; ranked = file-ready file z f j .ranked }
 
-page-read : {lent : Type 0} {file : List ℕ} {c : Settings} {b : Bounds} {a : Answer} (r : Rendered) (k : Counts) → Bytes file → Answers lent file c b a → a ≡ paged r k → Read file
-page-read r k z (out-of-order n) e = let y : _≡_ {A = ℕ} 0 1 = cc in absurd (omega arith)
-page-read r k z (wrong-file n o m) e = let y : _≡_ {A = ℕ} 0 1 = cc in absurd (omega arith)
-page-read {file = file} r k z (laid-out o m) e = means-read file z m
+file-of-page : {lent : Type 0} {file : List ℕ} {c : Settings} {b : Bounds} {a : Answer} (r : Rendered) (k : Counts) → Bytes file → Answers lent file c b a → a ≡ paged r k → PageFile file
+file-of-page r k z (out-of-order n) e = let y : _≡_ {A = ℕ} 0 1 = cc in absurd (omega arith)
+file-of-page r k z (wrong-file n o m) e = let y : _≡_ {A = ℕ} 0 1 = cc in absurd (omega arith)
+file-of-page {file = file} r k z (laid-out o m) e = accepted-file file z m
 
-rules-page-utf8 : (file : List ℕ) (c : Settings) (r : Rendered) → Read file → RulesPage file c r → Utf8 (r .bytes)
+rules-page-utf8 : (file : List ℕ) (c : Settings) (r : Rendered) → PageFile file → RulesPage file c r → Utf8 (r .bytes)
 rules-page-utf8 file c r y p =
     let t = tablesOf file in
     let f = p .rule in
@@ -126,4 +126,4 @@ rules-page-utf8 file c r y p =
 
 -- the page of every call
 pub page-utf8 : {lent : Type 0} {file : List ℕ} {c : Settings} {b : Bounds} {r : Rendered} {k : Counts} → Bytes file → Answers lent file c b (paged r k) → Utf8 (r .bytes)
-page-utf8 {file = file} {c = c} {r = r} {k = k} z a = rules-page-utf8 file c r (page-read r k z a refl) (page-right z a)
+page-utf8 {file = file} {c = c} {r = r} {k = k} z a = rules-page-utf8 file c r (file-of-page r k z a refl) (page-right z a)

@@ -11,7 +11,7 @@ use lib.ListN.{length, getD}
 use Rattle.file_tables.specs.Tables.{Tables, kind, first, second, flat, flat-mark, flat-word, choice-start, choice-length, skipped, width}
 use Rattle.file_utf8.specs.Rows.{utf8?}
 use Rattle.file_checks.specs.declared.Lengths.{Lengths}
-use Rattle.file_checks.specs.Told.{Told}
+use Rattle.file_checks.specs.Tells.{told-dec}
 use Rattle.file_checks.specs.References.{lengths-of, seq, fill, KindNamed, Named, RowsNamed, Numbers, References}
 use Rattle.file_checks.specs.Texts.{NoNewline, TextOk, text-bytes, TextsOk, SpaceOk}
 use Rattle.file_checks.specs.Circle.{Circle}
@@ -23,10 +23,6 @@ use Rattle.file_checks.proofs.Enumerated.{closed}
 use Rattle.file_checks.proofs.Orders.{cut-length, cut-comes, comes-cut}
 use Rattle.file_checks.proofs.Choices.{from-none, Split, cut-cases}
 use Rattle.file_checks.proofs.Decided.{circle?}
-
-told-dec : {P : Type 0} (b : Bool) → Told P b → Dec P
-told-dec true t = yes (t .yes refl)
-told-dec false t = no (t .no refl)
 
 all? : (P : ℕ → Type 0) (n : ℕ) → ((i : ℕ) → i < n → Dec (P i)) → Dec ((i : ℕ) → i < n → P i)
 all? P zero d = yes (λ i h. absurd (omega arith))

@@ -1,6 +1,7 @@
 -- What one byte makes of what is wanted, and the loop over a text.
 use mathlib.Core.Path.{_≡_, refl, sym, ap, _∙_, subst}
 use mathlib.Core.Bool.{Bool, true, false, false≢true}
+use mathlib.Core.Logic.{_↔_}
 use mathlib.Core.List.{List, [], _∷_}
 use Prim.Native.Nat.{ℕ, zero, suc, _+_, _-_, _≤_, _<_}
 use native.Mathlib.Omega.{arith}
@@ -10,6 +11,7 @@ use lib.ListN.{length, getD, drop, drop-of-length-le}
 use borrow.Author.Tests.{ne-eqb}
 use lib.Seq.{drop-cons}
 use Rattle.file_utf8.specs.Told.{Told}
+use Rattle.file_utf8.specs.Tells.{tell-iff}
 use Rattle.file_utf8.specs.declared.Wanted.{Wanted}
 use Rattle.file_utf8.specs.declared.Followed.{Followed}
 use Rattle.file_utf8.specs.declared.Followed.the-variants.{Wants, Ill}
@@ -88,10 +90,7 @@ unfolding rest
 at-end zero l h = refl
 at-end (suc n) l h = sym (ne-eqb (suc n) 0 (λ e. omega (arith, e)))
 
-told : {P : Type 0} (b : Bool) → (P → b ≡ true) → (b ≡ true → P) → Told P b
-told b f g = record { yes = g; no = λ e p. false≢true (sym e ∙ f p) }
-
 pub so-end : (text : List ℕ) (w : Wanted) (k : ℕ) → So text w k → length text ≤ k → Told (Utf8 text) (full (w .left))
 so-end text w k i h =
     let e : well text ≡ full (w .left) = i .same ∙ (ap (wants w) (drop-of-length-le text h) ∙ at-end (w .left) (w .low) (w .high)) in
-    let t = utf8-well text in told (full (w .left)) (λ u. sym e ∙ t .0 u) (λ q. t .1 (e ∙ q))
+    tell-iff (full (w .left)) (subst (λ (b : Bool). Utf8 text ↔ (b ≡ true)) e (utf8-well text))

@@ -48,15 +48,15 @@ pub data Spelled : List ℕ → Type 0 where
 -- ---- what is spelled the grammar allows
 
 six-tail : {y : ℕ} → Six y → Tail (128 + y)
-six-tail p = record { least = omega arith; most = omega (arith, p .most) }
+six-tail p = record { least = omega arith; most = omega arith }
 
 three-row : (x y z : ℕ) {s : List ℕ} → Six y → Six z → Between 2048 65535 (4096 * x + 64 * y + z) → (Surrogate (4096 * x + 64 * y + z) → ⊥) → Utf8 s → Utf8 ((224 + x) ∷ (128 + y) ∷ (128 + z) ∷ s)
 three-row x y z p q r n u =
     let t = six-tail q in
-    by-cases (decLt x 1) (λ h. three-e0 (record { least = omega arith; most = omega (arith, h) }) (record { least = omega (arith, h, q .most, r .least); most = omega (arith, p .most) }) t u)
+    by-cases (decLt x 1) (λ h. three-e0 (record { least = omega arith; most = omega (arith, h) }) (record { least = omega (arith, h, q .most, r .least); most = omega arith }) t u)
     (λ h₁. by-cases (decLt x 13) (λ h. three-e1 (record { least = omega (arith, h₁); most = omega (arith, h) }) (six-tail p) t u)
     (λ h₂. by-cases (decLt x 14) (λ h. three-ed (record { least = omega (arith, h₂); most = omega (arith, h) }) (record { least = omega arith; most = no-more h₂ h }) t u)
-    (λ h₃. three-ee (record { least = omega (arith, h₃); most = omega (arith, r .most) }) (six-tail p) t u)))
+    (λ h₃. three-ee (record { least = omega (arith, h₃); most = omega arith }) (six-tail p) t u)))
   where
     no-more : (x < 13 → ⊥) → x < 14 → 128 + y ≤ 159
     no-more h k = by-cases (decLt y 32) (λ l. omega (arith, l)) (λ l. absurd (n (record { least = omega (arith, h, l); most = omega (arith, k, p .most, q .most) })))
@@ -64,14 +64,14 @@ three-row x y z p q r n u =
 four-row : (x y z w : ℕ) {s : List ℕ} → Six y → Six z → Six w → Between 65536 1114111 (262144 * x + 4096 * y + 64 * z + w) → Utf8 s → Utf8 ((240 + x) ∷ (128 + y) ∷ (128 + z) ∷ (128 + w) ∷ s)
 four-row x y z w p q v r u =
     let t = six-tail q in let t₁ = six-tail v in
-    by-cases (decLt x 1) (λ h. four-f0 (record { least = omega arith; most = omega (arith, h) }) (record { least = omega (arith, h, q .most, v .most, r .least); most = omega (arith, p .most) }) t t₁ u)
+    by-cases (decLt x 1) (λ h. four-f0 (record { least = omega arith; most = omega (arith, h) }) (record { least = omega (arith, h, q .most, v .most, r .least); most = omega arith }) t t₁ u)
     (λ h₁. by-cases (decLt x 4) (λ h. four-f1 (record { least = omega (arith, h₁); most = omega (arith, h) }) (six-tail p) t t₁ u)
-    (λ h₂. four-f4 (record { least = omega (arith, h₂); most = omega (arith, r .most) }) (record { least = omega arith; most = omega (arith, h₂, r .most) }) t t₁ u))
+    (λ h₂. four-f4 (record { least = omega (arith, h₂); most = omega arith }) (record { least = omega arith; most = omega (arith, h₂, r .most) }) t t₁ u))
 
 allowed : {s : List ℕ} → Spelled s → Utf8 s
 allowed nothing = no-bytes
 allowed (one p u) = by-one p (allowed u)
-allowed (two x y p r u) = by-two {a = 192 + x} (record { least = omega (arith, p .most, r .least); most = omega (arith, r .most) }) (six-tail p) (allowed u)
+allowed (two x y p r u) = by-two {a = 192 + x} (record { least = omega arith; most = omega arith }) (six-tail p) (allowed u)
 allowed (three x y z p q r n u) = three-row x y z p q r n (allowed u)
 allowed (four x y z w p q v r u) = four-row x y z w p q v r (allowed u)
 
@@ -81,7 +81,7 @@ back : (n b : ℕ) → n ≤ b → n + (b - n) ≡ b
 back n b h = omega (arith, h)
 
 tail-six : {b : ℕ} → Tail b → Six (b - 128)
-tail-six t = record { least = omega arith; most = omega (arith, t .most) }
+tail-six t = record { least = omega arith; most = omega arith }
 
 -- bytes of three, by their numbers
 threes : {a b c : ℕ} {s : List ℕ} → Between 224 239 a → Tail b → Tail c → Between 2048 65535 (4096 * (a - 224) + 64 * (b - 128) + (c - 128)) → (Surrogate (4096 * (a - 224) + 64 * (b - 128) + (c - 128)) → ⊥) → Spelled s → Spelled (a ∷ b ∷ c ∷ s)
@@ -101,9 +101,9 @@ fours {a = a} {b = b} {c = c} {d = d} {s = s} p q t v r u =
 
 twos : {a b : ℕ} {s : List ℕ} → Between 194 223 a → Tail b → Spelled s → Spelled (a ∷ b ∷ s)
 twos {a = a} {b = b} {s = s} p q u =
-    subst (λ (i : ℕ). Spelled (i ∷ b ∷ s)) (back 192 a (omega (arith, p .least)))
+    subst (λ (i : ℕ). Spelled (i ∷ b ∷ s)) (back 192 a (omega arith))
     (subst (λ (i : ℕ). Spelled ((192 + (a - 192)) ∷ i ∷ s)) (back 128 b (q .least))
-    (two (a - 192) (b - 128) (tail-six q) (record { least = omega (arith, p .least); most = omega (arith, p .most, q .most) }) u))
+    (two (a - 192) (b - 128) (tail-six q) (record { least = omega arith; most = omega arith }) u))
 
 narrow : {i j k l b : ℕ} → k ≤ i → j ≤ l → Between i j b → Between k l b
 narrow m n p = record { least = omega (arith, m, p .least); most = omega (arith, n, p .most) }
@@ -112,13 +112,13 @@ spelled : {s : List ℕ} → Utf8 s → Spelled s
 spelled no-bytes = nothing
 spelled (by-one p u) = one p (spelled u)
 spelled (by-two p q u) = twos p q (spelled u)
-spelled (three-e0 p q t u) = threes (narrow (omega arith) (omega arith) p) (narrow (omega arith) (omega arith) q) t (record { least = omega (arith, q .least); most = omega (arith, p .most, q .most, t .most) }) (λ g. omega (arith, g .least, p .most, q .most, t .most)) (spelled u)
-spelled (three-e1 p q t u) = threes (narrow (omega arith) (omega arith) p) q t (record { least = omega (arith, p .least); most = omega (arith, p .most, q .most, t .most) }) (λ g. omega (arith, g .least, p .most, q .most, t .most)) (spelled u)
-spelled (three-ed p q t u) = threes (narrow (omega arith) (omega arith) p) (narrow (omega arith) (omega arith) q) t (record { least = omega (arith, p .least); most = omega (arith, p .most, q .most, t .most) }) (λ g. omega (arith, g .least, p .most, q .most, t .most)) (spelled u)
-spelled (three-ee p q t u) = threes (narrow (omega arith) (omega arith) p) q t (record { least = omega (arith, p .least); most = omega (arith, p .most, q .most, t .most) }) (λ g. omega (arith, g .most, p .least)) (spelled u)
-spelled (four-f0 p q t v u) = fours (narrow (omega arith) (omega arith) p) (narrow (omega arith) (omega arith) q) t v (record { least = omega (arith, q .least); most = omega (arith, p .most, q .most, t .most, v .most) }) (spelled u)
-spelled (four-f1 p q t v u) = fours (narrow (omega arith) (omega arith) p) q t v (record { least = omega (arith, p .least); most = omega (arith, p .most, q .most, t .most, v .most) }) (spelled u)
-spelled (four-f4 p q t v u) = fours (narrow (omega arith) (omega arith) p) (narrow (omega arith) (omega arith) q) t v (record { least = omega (arith, p .least); most = omega (arith, p .most, q .most, t .most, v .most) }) (spelled u)
+spelled (three-e0 p q t u) = threes (narrow (omega arith) (omega arith) p) (narrow (omega arith) (omega arith) q) t (record { least = omega arith; most = omega arith }) (λ g. omega arith) (spelled u)
+spelled (three-e1 p q t u) = threes (narrow (omega arith) (omega arith) p) q t (record { least = omega arith; most = omega arith }) (λ g. omega arith) (spelled u)
+spelled (three-ed p q t u) = threes (narrow (omega arith) (omega arith) p) (narrow (omega arith) (omega arith) q) t (record { least = omega arith; most = omega arith }) (λ g. omega arith) (spelled u)
+spelled (three-ee p q t u) = threes (narrow (omega arith) (omega arith) p) q t (record { least = omega arith; most = omega arith }) (λ g. omega arith) (spelled u)
+spelled (four-f0 p q t v u) = fours (narrow (omega arith) (omega arith) p) (narrow (omega arith) (omega arith) q) t v (record { least = omega arith; most = omega arith }) (spelled u)
+spelled (four-f1 p q t v u) = fours (narrow (omega arith) (omega arith) p) q t v (record { least = omega arith; most = omega arith }) (spelled u)
+spelled (four-f4 p q t v u) = fours (narrow (omega arith) (omega arith) p) (narrow (omega arith) (omega arith) q) t v (record { least = omega arith; most = omega arith }) (spelled u)
 
 pub by-numbers : (s : List ℕ) → Utf8 s ↔ Spelled s
 by-numbers s = (spelled, allowed)

@@ -8,6 +8,7 @@ use native.Mathlib.Omega.{arith}
 use native.Mathlib.Decide.{decLt}
 use lib.Dec.{ltb, eqb}
 use borrow.Author.Tests.{lt-ltb, le-ltb, eq-eqb, ne-eqb}
+use Rattle.file_utf8.specs.Tells.{tell-iff, told-dec}
 use Rattle.file_utf8.specs.Utf8.{Between, Tail, Utf8, nothing, one, two, three-e0, three-e1, three-ed, three-ee, four-f0, four-f1, four-f4}
 use Rattle.file_utf8.specs.Bytewise.{more, low, high, rest, well}
 
@@ -94,35 +95,35 @@ record Lead (a n i j : ℕ) : Type 0 where
 
 lead-two : {a : ℕ} → Between 194 223 a → Lead a 0 128 191
 lead-two {a = a} p =
-    record { past = omega (arith, p .least); more-is = more-one a (p .least) (omega (arith, p .most)); low-is = low-else a (λ e. omega (arith, p .most)) (λ e. omega (arith, p .most)); high-is = high-else a (λ e. omega (arith, p .most)) (λ e. omega (arith, p .most)) }
+    record { past = omega arith; more-is = more-one a (p .least) (omega arith); low-is = low-else a (λ e. omega arith) (λ e. omega arith); high-is = high-else a (λ e. omega arith) (λ e. omega arith) }
 
 lead-e0 : {a : ℕ} → Between 224 224 a → Lead a 1 160 191
 lead-e0 {a = a} p =
-    record { past = omega (arith, p .least); more-is = more-two a (p .least) (omega (arith, p .most)); low-is = low-e0 a (omega (arith, p .least, p .most)); high-is = high-else a (λ e. omega (arith, p .most)) (λ e. omega (arith, p .most)) }
+    record { past = omega arith; more-is = more-two a (p .least) (omega arith); low-is = low-e0 a (omega arith); high-is = high-else a (λ e. omega arith) (λ e. omega arith) }
 
 lead-e1 : {a : ℕ} → Between 225 236 a → Lead a 1 128 191
 lead-e1 {a = a} p =
-    record { past = omega (arith, p .least); more-is = more-two a (omega (arith, p .least)) (omega (arith, p .most)); low-is = low-else a (λ e. omega (arith, p .least)) (λ e. omega (arith, p .most)); high-is = high-else a (λ e. omega (arith, p .most)) (λ e. omega (arith, p .most)) }
+    record { past = omega arith; more-is = more-two a (omega arith) (omega arith); low-is = low-else a (λ e. omega arith) (λ e. omega arith); high-is = high-else a (λ e. omega arith) (λ e. omega arith) }
 
 lead-ed : {a : ℕ} → Between 237 237 a → Lead a 1 128 159
 lead-ed {a = a} p =
-    record { past = omega (arith, p .least); more-is = more-two a (omega (arith, p .least)) (omega (arith, p .most)); low-is = low-else a (λ e. omega (arith, p .least)) (λ e. omega (arith, p .most)); high-is = high-ed a (omega (arith, p .least, p .most)) }
+    record { past = omega arith; more-is = more-two a (omega arith) (omega arith); low-is = low-else a (λ e. omega arith) (λ e. omega arith); high-is = high-ed a (omega arith) }
 
 lead-ee : {a : ℕ} → Between 238 239 a → Lead a 1 128 191
 lead-ee {a = a} p =
-    record { past = omega (arith, p .least); more-is = more-two a (omega (arith, p .least)) (omega (arith, p .most)); low-is = low-else a (λ e. omega (arith, p .least)) (λ e. omega (arith, p .most)); high-is = high-else a (λ e. omega (arith, p .least)) (λ e. omega (arith, p .most)) }
+    record { past = omega arith; more-is = more-two a (omega arith) (omega arith); low-is = low-else a (λ e. omega arith) (λ e. omega arith); high-is = high-else a (λ e. omega arith) (λ e. omega arith) }
 
 lead-f0 : {a : ℕ} → Between 240 240 a → Lead a 2 144 191
 lead-f0 {a = a} p =
-    record { past = omega (arith, p .least); more-is = more-three a (p .least) (omega (arith, p .most)); low-is = low-f0 a (omega (arith, p .least, p .most)); high-is = high-else a (λ e. omega (arith, p .least)) (λ e. omega (arith, p .most)) }
+    record { past = omega arith; more-is = more-three a (p .least) (omega arith); low-is = low-f0 a (omega arith); high-is = high-else a (λ e. omega arith) (λ e. omega arith) }
 
 lead-f1 : {a : ℕ} → Between 241 243 a → Lead a 2 128 191
 lead-f1 {a = a} p =
-    record { past = omega (arith, p .least); more-is = more-three a (omega (arith, p .least)) (omega (arith, p .most)); low-is = low-else a (λ e. omega (arith, p .least)) (λ e. omega (arith, p .least)); high-is = high-else a (λ e. omega (arith, p .least)) (λ e. omega (arith, p .most)) }
+    record { past = omega arith; more-is = more-three a (omega arith) (omega arith); low-is = low-else a (λ e. omega arith) (λ e. omega arith); high-is = high-else a (λ e. omega arith) (λ e. omega arith) }
 
 lead-f4 : {a : ℕ} → Between 244 244 a → Lead a 2 128 143
 lead-f4 {a = a} p =
-    record { past = omega (arith, p .least); more-is = more-three a (omega (arith, p .least)) (omega (arith, p .most)); low-is = low-else a (λ e. omega (arith, p .least)) (λ e. omega (arith, p .least)); high-is = high-f4 a (omega (arith, p .least, p .most)) }
+    record { past = omega arith; more-is = more-three a (omega arith) (omega arith); low-is = low-else a (λ e. omega arith) (λ e. omega arith); high-is = high-f4 a (omega arith) }
 
 leads : {a n i j : ℕ} (l h : ℕ) (s : List ℕ) → Lead a n i j → rest zero l h (a ∷ s) ≡ rest (suc n) i j s
 leads {a = a} l h s z = rest-first l h a s (z .past) (λ e. omega (arith, z .more-is)) ∙ rw (z .more-is, z .low-is, z .high-is)
@@ -166,7 +167,7 @@ further {n = n} {i = i} {j = j} {b = b} {s = s} p e = record { yes = rest-next n
 allowed : {s : List ℕ} → Utf8 s → Passes zero 128 191 s
 unfolding rest
 allowed nothing = record { yes = refl }
-allowed (one {a = a} {s = s} p u) = record { yes = rest-ascii 128 191 a s (omega (arith, p .most)) ∙ allowed u .yes }
+allowed (one {a = a} {s = s} p u) = record { yes = rest-ascii 128 191 a s (omega arith) ∙ allowed u .yes }
 allowed (two p q u) = leading (lead-two p) (further q (allowed u))
 allowed (three-e0 p q t u) = leading (lead-e0 p) (further q (further t (allowed u)))
 allowed (three-e1 p q t u) = leading (lead-e1 p) (further q (further t (allowed u)))
@@ -228,8 +229,4 @@ pub utf8-well : (s : List ℕ) → Utf8 s ↔ (well s ≡ true)
 utf8-well s = (λ u. allowed u .yes, λ e. whole-is (goes s zero 128 191 e))
 
 pub utf8? : (s : List ℕ) → Dec (Utf8 s)
-utf8? s = go (well s) (utf8-well s)
-  where
-    go : (b : Bool) → Utf8 s ↔ (b ≡ true) → Dec (Utf8 s)
-    go true t = yes (t .1 refl)
-    go false t = no (λ u. false≢true (t .0 u))
+utf8? s = told-dec (well s) (tell-iff (well s) (utf8-well s))

@@ -1,5 +1,6 @@
 -- Answers told from tests.
-use mathlib.Core.Path.{_≡_}
+use mathlib.Core.Path.{_≡_, refl, sym, _∙_}
+use mathlib.Core.Logic.{_↔_}
 use mathlib.Core.Bool.{Bool, true, false, true≢false, false≢true}
 use Prim.Native.Nat.{ℕ, _≤_, _<_}
 use native.Mathlib.Omega.{arith}
@@ -25,3 +26,11 @@ tell-le a b f g = record { yes = λ e. f (leb-true a b e); no = λ e p. let h = 
 
 pub tell-eq : {P : Type 0} (a b : ℕ) → (a ≡ b → P) → (P → a ≡ b) → Told P (eqb a b)
 tell-eq a b f g = record { yes = λ e. f (eqb-true a b e); no = λ e p. eqb-false a b e (g p) }
+
+-- a test that is the claim
+pub tell-iff : {P : Type 0} (b : Bool) → P ↔ (b ≡ true) → Told P b
+tell-iff b t = record { yes = t .1; no = λ e p. false≢true (sym e ∙ t .0 p) }
+
+pub told-dec : {P : Type 0} (b : Bool) → Told P b → Dec P
+told-dec true t = yes (t .yes refl)
+told-dec false t = no (t .no refl)

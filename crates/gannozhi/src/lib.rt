@@ -199,7 +199,7 @@ fn read_words(a: Answer, was: [u32; 8]) -> [u32; 8]
     }
 }
 
-// A file into lent tables. A text that is not UTF-8 (RFC 3629) is refused by 7, like one with byte 10; so too below.
+// A file into lent tables. 7 is a text with byte 10 or one that is not UTF-8 (RFC 3629).
 #[no_mangle]
 pub extern "C" fn gannozhi_read(
     file: &[u8],
@@ -249,7 +249,7 @@ fn write_size(o: Outcome) -> usize
     }
 }
 
-// The file of lent tables.
+// The file of lent tables. 7 as above.
 #[no_mangle]
 pub extern "C" fn gannozhi_write(
     file_counts: &[u32; 7],
