@@ -27,25 +27,25 @@ use Rattle.machine_input.specs.Reading.{word-of-row}
 use Rattle.machine.specs.Events.{Bounds, Counts}
 use Rattle.machine.specs.Materializer.{Rendered}
 use Rattle.machine.specs.Answer.{Answer, paged}
-use Rattle.answer.specs.Answer.{Settings, rules-of, document-of, Answers, out-of-order, wrong-file, laid-out}
+use Rattle.answer.specs.Answer.{Settings, document-of, Answers, out-of-order, wrong-file, laid-out}
 use Rattle.answer.specs.Page.{RulesPage}
 use Rattle.answer.specs.Ready.{judged-accepted, file-ready}
 use Rattle.answer.specs.Demand.{page-right}
 
 -- every text of a document is well formed
-data Written : Doc → Type 0 where
-  of-empty : Written empty
-  of-text : {w : Word} → Utf8 (w .bytes) → Written (text w)
-  of-newline : Written newline
-  of-cat : {a b : Doc} → Written a → Written b → Written (cat a b)
-  of-nest : {n : ℕ} {d : Doc} → Written d → Written (nest n d)
-  of-align : {d : Doc} → Written d → Written (align d)
-  of-choice : {a b : Doc} → Written a → Written b → Written (choice a b)
-  of-annotate : {k : ℕ} {d : Doc} → Written d → Written (annotate k d)
-  of-penalty : {n : ℕ} {d : Doc} → Written d → Written (penalty n d)
+data WellFormed : Doc → Type 0 where
+  of-empty : WellFormed empty
+  of-text : {w : Word} → Utf8 (w .bytes) → WellFormed (text w)
+  of-newline : WellFormed newline
+  of-cat : {a b : Doc} → WellFormed a → WellFormed b → WellFormed (cat a b)
+  of-nest : {n : ℕ} {d : Doc} → WellFormed d → WellFormed (nest n d)
+  of-align : {d : Doc} → WellFormed d → WellFormed (align d)
+  of-choice : {a b : Doc} → WellFormed a → WellFormed b → WellFormed (choice a b)
+  of-annotate : {k : ℕ} {d : Doc} → WellFormed d → WellFormed (annotate k d)
+  of-penalty : {n : ℕ} {d : Doc} → WellFormed d → WellFormed (penalty n d)
 
 -- then so is the page of each of its layouts
-page-of : {R : Rules} {d : Doc} {c i : ℕ} {p : Plan} → Allows R d c i p → Written d → Utf8 (page p)
+page-of : {R : Rules} {d : Doc} {c i : ℕ} {p : Plan} → Allows R d c i p → WellFormed d → Utf8 (page p)
 page-of is-empty z = no-bytes
 page-of is-text (of-text u) = u
 page-of (is-newline {i = i}) z = newline-to i
@@ -60,20 +60,20 @@ page-of (is-penalty a) (of-penalty z) = page-of a z
 -- ---- the documents of a table whose texts are well formed
 
 module _ (T : Table) (texts : (n : ℕ) → Utf8 (T .texts n .bytes)) (space : Utf8 (T .space .bytes)) where
-  module _ (D : ℕ → Doc) (below : (n : ℕ) → Written (D n)) where
-    in-seq : (d : Doc) (ks : List ℕ) → Written d → Written (seq-doc T D d ks)
+  module _ (D : ℕ → Doc) (below : (n : ℕ) → WellFormed (D n)) where
+    in-seq : (d : Doc) (ks : List ℕ) → WellFormed d → WellFormed (seq-doc T D d ks)
     in-seq d [] z = z
     in-seq d (k ∷ ks) z = in-seq (cat d (D k)) ks (of-cat z (below k))
 
-    in-fill : (d : Doc) (ks : List ℕ) → Written d → Written (fill-doc T D d ks)
+    in-fill : (d : Doc) (ks : List ℕ) → WellFormed d → WellFormed (fill-doc T D d ks)
     in-fill d [] z = z
     in-fill d (k ∷ ks) z = in-fill (cat (cat d (choice (text (T .space)) newline)) (D k)) ks (of-cat (of-cat z (of-choice (of-text space) of-newline)) (below k))
 
-    in-group : (k : ℕ) (o : Option ℕ) → Written (group-doc T D k o)
+    in-group : (k : ℕ) (o : Option ℕ) → WellFormed (group-doc T D k o)
     in-group k none = below k
     in-group k (some f) = of-choice (below f) (below k)
 
-    in-shape : (v : Node) → Written (shape T D v)
+    in-shape : (v : Node) → WellFormed (shape T D v)
     in-shape Empty = of-empty
     in-shape Break = of-newline
     in-shape HardLine = of-newline
@@ -89,12 +89,12 @@ module _ (T : Table) (texts : (n : ℕ) → Utf8 (T .texts n .bytes)) (space : U
     in-shape (Annotate a k) = of-annotate (below k)
     in-shape (Penalty n k) = of-penalty (below k)
 
-  in-depth : (f n : ℕ) → Written (unfolded T f n)
+  in-depth : (f n : ℕ) → WellFormed (unfolded T f n)
   in-depth zero n = of-empty
   in-depth (suc f) n = in-shape (unfolded T f) (in-depth f) (T .node n)
 
-  in-document : (K : Ranked T) (D : ℕ → Doc) → Reads T D → (n : ℕ) → Written (D n)
-  in-document K D r n = subst Written (sym (reads-document T K D r n)) (in-depth (suc (K .rank n)) n)
+  in-document : (K : Ranked T) (D : ℕ → Doc) → Reads T D → (n : ℕ) → WellFormed (D n)
+  in-document K D r n = subst WellFormed (sym (reads-document T K D r n)) (in-depth (suc (K .rank n)) n)
 
 -- ---- an accepted file's
 

@@ -152,15 +152,19 @@ unfoldable pub texted : Tables → Bool
 unfolding more-bytes low high rest-bytes
 texted t = all-below (length (t .texts)) (λ i. text-ok (text-bytes (t .texts) (t .bytes) i))
 
--- neither 7 nor 8
+-- nor 8
 abbrev space-bytes : Tables → List ℕ
 space-bytes t = text-bytes (t .texts) (t .bytes) (t .space)
 
 abbrev space-tests : Tables → List Bool
 space-tests t = eqb (width (getD (t .texts) (t .space) [])) 1 ∷ eqb (length (space-bytes t)) 1 ∷ eqb (getD (space-bytes t) 0 0) 32 ∷ []
 
-abbrev pub spaced : Tables → Bool
-spaced t = both (texted t) (all (space-tests t))
+abbrev spaced : Tables → Bool
+spaced t = all (space-tests t)
+
+-- neither 7 nor 8
+abbrev pub texts-fine : Tables → Bool
+texts-fine t = both (texted t) (spaced t)
 
 -- nor 1
 abbrev pub ordered : Settings → Bool
@@ -242,7 +246,7 @@ texts-right t e =
           record { no-newline = record { none = λ k l. eqb-false _ _ (not-true _ (at-below (length bytes) (no-ten bytes) (b .0) k l)) }; well-formed = utf8-well bytes .1 (b .1) };
     }
 
-space-is : (t : Tables) → all (space-tests t) ≡ true → SpaceOk (t .texts) (t .bytes) (t .space)
+space-is : (t : Tables) → spaced t ≡ true → SpaceOk (t .texts) (t .bytes) (t .space)
 space-is t e =
     let test = all-at (space-tests t) e in
     record { wide = eqb-true _ _ (test 0); byte = only-byte (space-bytes t) (eqb-true _ _ (test 1)) (eqb-true _ _ (test 2)) }
@@ -315,12 +319,12 @@ references-right t s = references t (tables-are t s)
 -- the file is accepted, and the answer to a call is that of solver and materializer on the tables
 pub worked :
     (t : Tables) {file : List ℕ} {c : Settings} {b : Bounds} {a : Answer}
-    → bytes-of t ≡ file → sound t ≡ true → spaced t ≡ true → ordered c ≡ true → tried t c b ≡ a → Answers (Unit {0}) file c b a
+    → bytes-of t ≡ file → sound t ≡ true → texts-fine t ≡ true → ordered c ≡ true → tried t c b ≡ a → Answers (Unit {0}) file c b a
 unfolding tried
 worked t {file} {c} {b} e s p o q =
     let r = file-read t file e s in
     let z = tables-are t s in
-    let x = both-true (texted t) (all (space-tests t)) p in
+    let x = both-true (texted t) (spaced t) p in
     let j = accepted (record { references = references t z; texts = texts-right t (x .0); space = space-is t (x .1); no-circle = no-circle t z; lists = lists t z }) in
     let w = both-true (leb 1 (c .width)) (leb (c .policy) 1) o in
     subst (λ (x : Answer). Answers (Unit {0}) file c b x) q

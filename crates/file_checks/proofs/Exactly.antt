@@ -1,6 +1,5 @@
 -- Tables have exactly one verdict.
 use mathlib.Core.Path.{_≡_, refl, sym, ap, subst}
-use mathlib.Core.Bool.{Bool, true, false}
 use mathlib.Core.Logic.{⊎-elim, by-cases}
 use mathlib.Core.Option.{some}
 use mathlib.Core.List.{List, [], _∷_}

@@ -2,7 +2,7 @@
 use mathlib.Core.Bool.{Bool, true, false, cond}
 use mathlib.Core.List.{List, [], _∷_}
 use Prim.Native.Nat.{ℕ, zero, suc}
-use lib.Dec.{ltb, leb, eqb}
+use lib.Dec.{ltb, eqb}
 
 -- how many bytes follow a first byte (0: none may), and between which the first of them is
 unfoldable pub more : ℕ → ℕ

@@ -1,5 +1,5 @@
--- The least and the greatest of the rows and their neighbours outside, and characters cut short.
-use mathlib.Core.Path.{_≡_, refl, sym, _∙_}
+-- Strings at the boundaries of the grammar's rows, on either side, and characters cut short.
+use mathlib.Core.Path.{_≡_, refl}
 use mathlib.Core.Bool.{Bool, true, false, cond, not, false≢true}
 use mathlib.Core.List.{List, [], _∷_}
 use Prim.Native.Nat.{ℕ}

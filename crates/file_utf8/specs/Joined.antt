@@ -1,10 +1,9 @@
 -- What is well formed by itself is so in a row with more of it: for pages, which are texts, newlines and spaces.
-use mathlib.Core.Path.{_≡_, refl}
-use mathlib.Core.List.{List, [], _∷_, _++_}
+use mathlib.Core.List.{List, _∷_, _++_}
 use Prim.Native.Nat.{ℕ, zero, suc}
 use native.Mathlib.Omega.{arith}
 use lib.ListN.{replicate}
-use Rattle.file_utf8.specs.Utf8.{Between, Utf8, nothing, one, two, three-e0, three-e1, three-ed, three-ee, four-f0, four-f1, four-f4}
+use Rattle.file_utf8.specs.Utf8.{Utf8, nothing, one, two, three-e0, three-e1, three-ed, three-ee, four-f0, four-f1, four-f4}
 
 pub joined : (s t : List ℕ) → Utf8 s → Utf8 t → Utf8 (s ++ t)
 joined _ t nothing v = v

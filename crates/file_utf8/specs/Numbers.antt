@@ -1,6 +1,6 @@
 -- The grammar allows just what RFC 3629, section 3, spells: whole characters by their numbers, each in its one form. So the grammar's rows
 -- are document 02's words: no overlong forms, no surrogates, nothing above 10FFFF hexadecimal.
-use mathlib.Core.Path.{_≡_, refl, ap, _∙_, subst}
+use mathlib.Core.Path.{_≡_, subst}
 use mathlib.Core.Logic.{_↔_, by-cases}
 use mathlib.Core.List.{List, [], _∷_}
 use Prim.Native.Nat.{ℕ, _+_, _-_, _*_, _≤_, _<_}

@@ -1,12 +1,11 @@
 -- The byte-by-byte test is the RFC's grammar, so the grammar can be decided.
-use mathlib.Core.Path.{_≡_, refl, sym, ap, _∙_}
-use mathlib.Core.Bool.{Bool, true, false, cond, true≢false, false≢true}
+use mathlib.Core.Path.{_≡_, refl, sym, _∙_}
+use mathlib.Core.Bool.{true, false, true≢false, false≢true}
 use mathlib.Core.Logic.{_↔_, by-cases}
 use mathlib.Core.List.{List, [], _∷_}
 use Prim.Native.Nat.{ℕ, zero, suc, _≤_, _<_}
 use native.Mathlib.Omega.{arith}
 use native.Mathlib.Decide.{decLt}
-use lib.Dec.{ltb, eqb}
 use borrow.Author.Tests.{lt-ltb, le-ltb, eq-eqb, ne-eqb}
 use Rattle.file_utf8.specs.Tells.{tell-iff, told-dec}
 use Rattle.file_utf8.specs.Utf8.{Between, Tail, Utf8, nothing, one, two, three-e0, three-e1, three-ed, three-ee, four-f0, four-f1, four-f4}

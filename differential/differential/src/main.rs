@@ -189,7 +189,7 @@ fn fixed_cases(comparer: &mut Comparer) {
     for case in fixed::cases() {
         let call = Call { file: &case.file, settings: case.settings, sizes: case.sizes, limits: case.limits };
         let right = case.settings.width > 0 && case.settings.policy < 2;
-        let tables = model::file::read(&case.file).ok().filter(|_| right);
+        let tables = comparer.read(&case.file).ok().filter(|_| right);
         let document = tables.as_ref().map(reference::access::document);
         let answer = comparer.call(&call, tables.as_ref().zip(document.as_ref()));
         let met = match (&answer, &case.want) {

@@ -4,7 +4,7 @@ use common::{kind, Node, Settings, Sizes, Tables, Text};
 
 use crate::compare::{Call, Comparer, LIMITS};
 
-/// The first and the last byte of every range that RFC 3629, section 4, names, their neighbours, and byte 10.
+/// The first and the last byte of every range that RFC 3629, section 4, names, their neighbours outside, byte 10 with its neighbours, FE and FF.
 const EDGES: [u8; 28] = [
     0x00, 0x09, 0x0a, 0x0b, 0x7f, 0x80, 0x8f, 0x90, 0x9f, 0xa0, 0xbf, 0xc0, 0xc1, 0xc2, 0xdf, 0xe0, 0xe1, 0xec, 0xed,
     0xee, 0xef, 0xf0, 0xf1, 0xf3, 0xf4, 0xf5, 0xfe, 0xff,

@@ -4,7 +4,7 @@ use common::{kind, Node, Tables, Text};
 
 use crate::Rng;
 
-/// Characters of two, three and four bytes: the least and the greatest of each length, those beside the surrogates, some that are none.
+/// Characters of two, three and four bytes: the least and the greatest of each length, those beside the surrogates, some that are no characters.
 pub const WIDE: [char; 15] = [
     '\u{80}',
     'é',

@@ -1,4 +1,4 @@
-//! The prepared file: reader and writer, from document 01 ("Prepared file"), document 02 (change 1) and docs/DECISIONS.md 1 to 15 and 97.
+//! The prepared file: reader and writer, from document 01 ("Prepared file"), document 02 (change 1) and docs/DECISIONS.md 1 to 15 and 97 to 100.
 
 use crate::utf8::well_formed;
 use common::{kind, limit, Node, Tables, Text};
