@@ -1,10 +1,11 @@
 -- Every answer is as promised; under sizes and limits none smaller a page stays the same page, counts too; the counts balance.
 use mathlib.Core.Path.{_≡_, refl, ap, subst}
 use mathlib.Core.List.{List}
-use Prim.Native.Nat.{ℕ, _≤_}
+use Prim.Native.Nat.{ℕ}
 use native.Mathlib.Omega.{arith}
 use Rattle.layout.specs.Squares.{squares-lawful}
 use Rattle.file_encode.specs.Fields.{Bytes}
+use Rattle.machine.specs.Numbers.{Numbered, listed, machine-numbered}
 use Rattle.machine.specs.Events.{Bounds, Counts}
 use Rattle.machine.specs.Materializer.{Rendered}
 use Rattle.machine.specs.Answer.{Answer, paged, refused, answer}
@@ -33,12 +34,12 @@ rules-page file c p = record {
 
 promised-of : (file : List ℕ) (c : Settings) {a : Answer} → Right (rules-of c) (document-of file) a → Promised file c a
 promised-of file c (found-page p) = right-page (rules-page file c p)
-promised-of file c (found-refusal {n = n} l h) = right-refusal {n = n} (omega (arith, l)) h
+promised-of file c (found-refusal l) = right-refusal (machine-numbered l)
 
 module _ {lent : Type 0} {file : List ℕ} {c : Settings} {b : Bounds} (z : Bytes file) where
   pub promised : {a : Answer} → Answers lent file c b a → Promised file c a
-  promised (out-of-order n) = right-refusal {n = 1} (omega arith) (omega arith)
-  promised (wrong-file n o m) = let h = file-faults m in right-refusal {n = n} (omega (arith, h .0)) (omega (arith, h .1))
+  promised (out-of-order n) = right-refusal {n = 1} (listed (omega arith) (omega arith))
+  promised (wrong-file n o m) = let h = file-faults m in right-refusal {n = n} (listed (omega (arith, h .0)) (omega (arith, h .1)))
   promised (laid-out o m) = promised-of file c (answer-right (rules-of c) (squares-lawful (c .width) (c .newline-cost) (c .policy)) (document-of file) (means-ready file z m) b)
 
   pub page-right : {r : Rendered} {k : Counts} → Answers lent file c b (paged r k) → RulesPage file c r
@@ -47,11 +48,11 @@ module _ {lent : Type 0} {file : List ℕ} {c : Settings} {b : Bounds} (z : Byte
       go : Promised file c (paged r k) → RulesPage file c r
       go (right-page p) = p
 
-  pub refusal-right : {n m : ℕ} {k : Counts} → Answers lent file c b (refused n m k) → (1 ≤ n) × (n ≤ 22)
+  pub refusal-right : {n m : ℕ} {k : Counts} → Answers lent file c b (refused n m k) → Numbered n
   refusal-right {n} {m} {k} a = go (promised a)
     where
-      go : Promised file c (refused n m k) → (1 ≤ n) × (n ≤ 22)
-      go (right-refusal l h) = (l, h)
+      go : Promised file c (refused n m k) → Numbered n
+      go (right-refusal h) = h
 
 -- ---- under sizes and limits none smaller
 

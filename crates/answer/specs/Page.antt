@@ -1,10 +1,11 @@
 -- What is promised of every answer (document 01, "Layouts" and "Calls").
 use mathlib.Core.Path.{_≡_}
 use mathlib.Core.List.{List}
-use Prim.Native.Nat.{ℕ, _≤_}
+use Prim.Native.Nat.{ℕ}
 use Rattle.layout.specs.Layout.{Plan, page, overflow-of, burden-of}
 use Rattle.layout.specs.Spans.{spans}
 use Rattle.layout.specs.Cheapest.{FirstCheapest}
+use Rattle.machine.specs.Numbers.{Numbered}
 use Rattle.machine.specs.Events.{Counts}
 use Rattle.machine.specs.Materializer.{Rendered}
 use Rattle.machine.specs.Answer.{Answer, paged, refused}
@@ -19,7 +20,7 @@ pub record RulesPage (file : List ℕ) (c : Settings) (r : Rendered) : Type 0 wh
   pub overflow-is : r .cost .overflow ≡ overflow-of (rules-of c) layout
   pub burden-is : r .cost .burden ≡ burden-of (rules-of c) layout
 
--- an answer is such a page, or a refusal by one of document 01's numbers
+-- an answer is such a page, or a refusal by one of the numbers of documents 01 and 02
 pub data Promised (file : List ℕ) (c : Settings) : Answer → Type 0 where
   right-page : {r : Rendered} {k : Counts} → RulesPage file c r → Promised file c (paged r k)
-  right-refusal : {n m : ℕ} {k : Counts} → 1 ≤ n → n ≤ 22 → Promised file c (refused n m k)
+  right-refusal : {n m : ℕ} {k : Counts} → Numbered n → Promised file c (refused n m k)

@@ -1,5 +1,5 @@
--- Document 01, "Checked by hand (★ proved)": its starred cases in one list, in its order, and one theorem that each comes to what document 01 says.
--- Files, pages, numbers and counts are those of the frozen sample, where the Rust gave them; that such an answer is the only one, and its page the rule's, are theorems (Exactly, Demand).
+-- Document 01, "Checked by hand (★ proved)": its starred cases in one list, in its order, and one theorem that each comes to what document 01 says (11 for two Nests became 25 by document 02, change 3).
+-- Files, pages, numbers and counts are those of the frozen sample; that such an answer is the only one, and its page the rule's, are theorems (Exactly, Demand).
 use mathlib.Core.Path.{_≡_, refl}
 use mathlib.Core.List.{List, [], _∷_}
 use Prim.Native.Nat.{ℕ}
@@ -111,9 +111,9 @@ starred =
     -- "★ Fill of `a`, `b`, newline cost 1: W 3 `a b`; W 2 two lines."
     ∷ call fill-file (at 3 1 0) (shows (97 ∷ 32 ∷ 98 ∷ []) 0 0 (counted 13 0 4 9 0 2 4 9 5))
     ∷ call fill-file (at 2 1 0) (shows (97 ∷ 10 ∷ 98 ∷ []) 0 1 (counted 13 0 4 9 1 2 4 8 5))
-    -- "★ Nest 1 over Nest 2^32 − 1 over Empty, W 80: 11 under either policy."
-    ∷ call nests-file (at 80 1 0) (refused 11 0 (counted 2 0 2 0 0 0 0 0 0))
-    ∷ call nests-file (at 80 1 1) (refused 11 0 (counted 2 0 2 0 0 0 0 0 0))
+    -- "★ Nest 1 over Nest 2^32 − 1 over Empty, W 80: 11 under either policy." By document 02, change 3, it is 25
+    ∷ call nests-file (at 80 1 0) (refused 25 0 (counted 2 0 2 0 0 0 0 0 0))
+    ∷ call nests-file (at 80 1 1) (refused 25 0 (counted 2 0 2 0 0 0 0 0 0))
     -- "★ HardLine in Nest 3, W 3: 3 spaces, policy 1: 2."
     ∷ call line-file (at 3 1 0) (shows (10 ∷ 32 ∷ 32 ∷ 32 ∷ []) 0 1 (counted 3 0 2 1 0 1 2 1 1))
     ∷ call line-file (at 3 1 1) (shows (10 ∷ 32 ∷ 32 ∷ []) 0 1 (counted 3 0 2 1 0 1 2 1 1))

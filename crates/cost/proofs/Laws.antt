@@ -3,15 +3,15 @@ use mathlib.Core.Path.{_≡_, refl, sym, ap, ap₂}
 use mathlib.Core.Bool.{Bool, true, false}
 use mathlib.Core.Option.{none, some}
 use Prim.Native.Nat.{ℕ, _+_, _-_, _*_, _^_, _≤_, _<_}
-use native.Mathlib.Nat.{mul-le-mul, le-of-lt, lt-irrefl, not-le-of-lt}
+use native.Mathlib.Nat.{mul-le-mul, le-of-lt, lt-irrefl, not-le-of-lt, lt-of-lt-of-le}
 use native.Mathlib.Omega.{arith}
 use lib.Dec.{leb, ltb}
 use borrow.Author.Tests.{le-ltb, lt-ltb, leb-true, ltb-true, ltb-false, le-leb}
 use Rattle.cost.specs.Cost.{Cost, cheap}
-use Rattle.cost.specs.Charge.{squared, text-cost}
+use Rattle.cost.specs.Charge.{squared, text-cost, newline-cost}
 use Rattle.cost.specs.Logic.{false-if, same-test}
 use Rattle.cost.specs.Order.{Cheap, cheap-is, is-cheap}
-use Rattle.cost.specs.Value.{value, pick-option, halved-within, cost, past, within, text-outcome}
+use Rattle.cost.specs.Value.{value, pick-option, halved-within, cost, past, within, text-outcome, newline-outcome}
 use Rattle.cost.specs.declared.ConsumerCost.{ConsumerCost}
 use Rattle.cost.specs.declared.Reason.the-variants.{Column, Overflow, Burden}
 
@@ -73,6 +73,11 @@ text-past w column width h = rw (le-ltb _ _ h)
 pub text-is : (w column width : ℕ) (d : Cost) → column + width < 2 ^ 32 → d ≡ text-cost (squared w) column width → cost d ≡ text-outcome w column width
 unfolding text-outcome
 text-is w column width d h e = rw (lt-ltb _ _ h, e)
+
+-- a newline's cost has its place
+pub newline-fits : (w newline indent : ℕ) → newline < 2 ^ 32 → indent < 2 ^ 32 → cost (newline-cost (squared w) newline indent) ≡ newline-outcome w newline indent
+unfolding newline-outcome
+newline-fits w newline indent h k = within-both _ _ refl refl (lt-of-lt-of-le (square-fits (indent - w) (omega arith)) (leb-true (2 ^ 64) (2 ^ 128) refl)) (omega arith)
 
 pub at-most : (a b : Cost) → Cheap a b → true ≡ cheap a b
 at-most a b h = sym (is-cheap a b h)

@@ -4,7 +4,7 @@ use mathlib.Core.Option.{Option, none, some}
 use Prim.Native.Nat.{ℕ, _+_, _*_, _^_}
 use lib.Dec.{ltb}
 use Rattle.cost.specs.Cost.{Cost}
-use Rattle.cost.specs.Charge.{squared, text-cost}
+use Rattle.cost.specs.Charge.{squared, text-cost, newline-cost}
 use Rattle.cost.specs.declared.Reason.{Reason}
 use Rattle.cost.specs.declared.Reason.the-variants.{Column, Indent, Overflow, Burden}
 use Rattle.cost.specs.declared.ConsumerCost.{ConsumerCost}
@@ -49,14 +49,18 @@ within c = if-so (ltb (c .overflow) (2 ^ 128)) (if-so (ltb (c .burden) (2 ^ 64))
 unfoldable pub text-outcome : ℕ → ℕ → ℕ → Outcome
 text-outcome w column width = if-so (ltb (column + width) (2 ^ 32)) (cost (text-cost (squared w) column width)) (past Column)
 
+-- a newline's cost at page width w, where it is within its widths
+unfoldable pub newline-outcome : ℕ → ℕ → ℕ → Outcome
+newline-outcome w newline indent = within (newline-cost (squared w) newline indent)
+
 -- an answer's case and value
 abbrev pub outcome : Costed → Outcome
 outcome (Is c) = cost (value c)
 outcome (Failed r) = past r
 
--- the number of document 01 for what is past its width
+-- the refusal's number for what is past its width: document 01, as document 02, change 3, parts it
 abbrev pub domain-number : Reason → ℕ
 domain-number Column = 11
-domain-number Indent = 11
-domain-number Overflow = 11
-domain-number Burden = 11
+domain-number Indent = 25
+domain-number Overflow = 26
+domain-number Burden = 26

@@ -3,7 +3,7 @@ ghost use mathlib.Core.Path.{_≡_};
 ghost use Prim.Native.Nat.{_+_, _-_, _*_, _^_, _<_};
 ghost use Rattle.cost.specs.Cost.{add, cheap, cheaper};
 ghost use Rattle.cost.specs.Charge.{over, squared, newline-cost, penalty-cost};
-ghost use Rattle.cost.specs.Value.{halves, value, halved, halved-within, within, text-outcome, outcome};
+ghost use Rattle.cost.specs.Value.{halves, value, halved, halved-within, cost, within, text-outcome, newline-outcome, outcome, domain-number};
 
 // Overflow below 2^128 in two halves, burden below 2^64.
 pub struct ConsumerCost {
@@ -18,6 +18,18 @@ pub enum Reason {
     Indent,
     Overflow,
     Burden,
+}
+
+// The number of a refusal for what is past its width.
+pub fn domain_number(reason: Reason) -> u32
+    ensures { λ r. ⌜ r ≡ domain-number reason ⌝ }
+{
+    match reason {
+        Reason::Column => 11,
+        Reason::Indent => 25,
+        Reason::Overflow => 26,
+        Reason::Burden => 26,
+    }
 }
 
 // A cost, or what has no place in its width.
@@ -99,16 +111,17 @@ impl ConsumerCost {
         })
     }
 
-    // A newline to an indent.
-    pub fn newline(model: PreparedConsumerCostModel, indent: u32) -> Self
-        ensures { λ r. ⌜ value r ≡ newline-cost (squared (model .width)) (model .«newline_cost») indent ⌝ }
+    // A newline to an indent. It never fails: the square of a column and a newline cost have their places.
+    pub fn newline(model: PreparedConsumerCostModel, indent: u32) -> Costed
+        ensures says { λ r. ⌜ outcome r ≡ newline-outcome (model .width) (model .«newline_cost») indent ⌝ }
+        ensures fits { λ r. ⌜ outcome r ≡ cost (newline-cost (squared (model .width)) (model .«newline_cost») indent) ⌝ }
     {
         let charge = model.charge(indent);
-        ConsumerCost {
+        Costed::Cost(ConsumerCost {
             overflow_high: 0,
             overflow_low: charge,
             burden: model.newline_cost as u64,
-        }
+        })
     }
 
     pub fn penalty(amount: u32) -> Self

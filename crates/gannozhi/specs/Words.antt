@@ -1,7 +1,8 @@
 -- Which word is what where an answer is handed to another language.
-use mathlib.Core.Path.{_≡_, subst}
+use mathlib.Core.Path.{_≡_, ap, _∙_, subst}
 use mathlib.Core.List.{List, [], _∷_}
-use Prim.Native.Nat.{ℕ, _≤_}
+use Prim.Native.Nat.{ℕ}
+use native.Mathlib.Omega.{arith}
 use lib.ListN.{getD}
 use Rattle.stats.specs.declared.SolveStats.{SolveStats}
 use Rattle.solve_workspace.specs.declared.Bounds.{Bounds}
@@ -19,6 +20,7 @@ use Rattle.materialize.specs.Rows.{Row}
 use Rattle.render.specs.declared.page.Rendered.{Rendered}
 use Rattle.render.specs.declared.page.Rendered.the-variants.{Page, Refused}
 use Rattle.render.specs.declared.order.Lengths.{Lengths}
+use Rattle.machine.specs.Numbers.{Numbered, not-0}
 use Rattle.machine.specs.Answer.{refused}
 use Rattle.answer.specs.Page.{Promised, right-refusal}
 use Rattle.solve_workspace.specs.Meets.{tally}
@@ -65,14 +67,22 @@ pub record Answered (file : List ℕ) (o : RenderOptions) (b : Bounds) (l : Leng
   pub answer-is : answer ≡ words told
   pub number-is : number ≡ getD (words told) 0 0
 
--- a refusal's number is 1 to 22, so that the number is 0 just where there is a page
+-- a refusal's number is one of those of documents 01 and 02
 pub refusals :
     {file : List ℕ} {o : RenderOptions} {b : Bounds} {l : Lengths} {output₀ output : List ℕ} {rows₀ rows : List Row} {answer : List ℕ} {number : ℕ}
-    → (a : Answered file o b l output₀ output rows₀ rows answer number) (n needed : ℕ) (k : SolveStats) → a .told ≡ Refused n needed k → (1 ≤ n) × (n ≤ 22)
-refusals {file} {o} {output = output} {rows = rows} a n needed k e = bounded (subst (λ (r : Rendered). Promised file (settings o) (meant r output rows)) e (a .rendering .promised))
+    → (a : Answered file o b l output₀ output rows₀ rows answer number) (n needed : ℕ) (k : SolveStats) → a .told ≡ Refused n needed k → Numbered n
+refusals {file} {o} {output = output} {rows = rows} a n needed k e = one-of (subst (λ (r : Rendered). Promised file (settings o) (meant r output rows)) e (a .rendering .promised))
   where
-    bounded : Promised file (settings o) (refused n needed (tally k)) → (1 ≤ n) × (n ≤ 22)
-    bounded (right-refusal low high) = (low, high)
+    one-of : Promised file (settings o) (refused n needed (tally k)) → Numbered n
+    one-of (right-refusal h) = h
+
+-- none of them is 0: the number is 0 just where there is a page
+pub never-0 :
+    {file : List ℕ} {o : RenderOptions} {b : Bounds} {l : Lengths} {output₀ output : List ℕ} {rows₀ rows : List Row} {answer : List ℕ} {number : ℕ}
+    → (a : Answered file o b l output₀ output rows₀ rows answer number) (n needed : ℕ) (k : SolveStats) → a .told ≡ Refused n needed k → number ≡ 0 → ⊥
+never-0 {number = number} a n needed k e z =
+    let same : number ≡ n = a .number-is ∙ ap (λ (r : Rendered). getD (words r) 0 0) e in
+    omega (arith, not-0 (refusals a n needed k e), same, z)
 
 -- ---- reader and writer
 

@@ -1,10 +1,10 @@
--- Worked cases, computed: pages that tell readings apart, and each refusal 11 to 22, with their counts. Pages, counts and needed sizes are the Rust's wherever it can show them.
+-- Worked cases, computed: pages that tell readings apart, and each refusal 11 to 22, 25 and 26, with their counts. Pages, counts and needed sizes are the Rust's wherever it can show them.
 -- Document 01's starred cases are in crate answer, Starred.
 use mathlib.Core.Path.{_≡_, refl}
 use mathlib.Core.Bool.{cond}
 use mathlib.Core.Option.{Option, none, some}
 use mathlib.Core.List.{List, [], _∷_, map}
-use Prim.Native.Nat.{ℕ, suc}
+use Prim.Native.Nat.{ℕ, zero, suc, _+_}
 use lib.Dec.{eqb}
 use lib.ListN.{getD, length}
 use Rattle.cost.specs.Cost.{cheap, cheaper}
@@ -169,8 +169,8 @@ abbrev aligned-doc : Prepared
 aligned-doc = prepared 4 (Text 1 ∷ Empty ∷ Nest 4294967294 1 ∷ Align 2 ∷ Seq (0 ∷ 3 ∷ []) ∷ [])
     (word 1 (32 ∷ []) ∷ word 2 (97 ∷ 98 ∷ []) ∷ []) ([]) ([])
 
--- the sum is tested before it is lowered
-aligned-nest : tried 80 1 1 aligned-doc ample ≡ refusal 11 0 (counted 5 0 4 1 0 1 1 0 0)
+-- 25: the sum is tested before it is lowered
+aligned-nest : tried 80 1 1 aligned-doc ample ≡ refusal 25 0 (counted 5 0 4 1 0 1 1 0 0)
 unfolding tried
 aligned-nest = refl
 
@@ -204,6 +204,75 @@ page-doc = prepared 4 (Empty ∷ Text 1 ∷ Choice 0 1 ∷ Text 2 ∷ Seq (2 ∷
 choice-page : tried 80 1 0 page-doc ample ≡ page (98 ∷ []) 0 0 (counted 11 0 5 6 1 1 5 4 3) ([])
 unfolding tried
 choice-page = refl
+
+-- a Fill's space past 2^32 − 1
+abbrev gap-doc : Prepared
+gap-doc = prepared 2 (Text 1 ∷ Empty ∷ Fill (0 ∷ 1 ∷ []) ∷ [])
+    (word 1 (32 ∷ []) ∷ word 4294967295 (97 ∷ []) ∷ []) ([]) ([])
+
+gap-11 : tried 80 1 0 gap-doc ample ≡ refusal 11 0 (counted 3 0 2 1 0 1 1 0 0)
+unfolding tried
+gap-11 = refl
+
+-- an indent that has its place leaves none for the text after a newline to it: 11, not 25
+abbrev deep-doc : Prepared
+deep-doc = prepared 3 (HardLine ∷ Text 1 ∷ Seq (0 ∷ 1 ∷ []) ∷ Nest 4294967295 2 ∷ [])
+    (word 1 (32 ∷ []) ∷ word 1 (97 ∷ []) ∷ []) ([]) ([])
+
+deep-11 : tried 80 1 0 deep-doc ample ≡ refusal 11 0 (counted 5 0 4 1 0 1 1 0 0)
+unfolding tried
+deep-11 = refl
+
+-- two Nests past 2^32 − 1 beside two texts past it: what is met first
+abbrev nests-doc : List ℕ → Prepared
+nests-doc order = prepared 5 (Text 1 ∷ Text 2 ∷ Empty ∷ Nest 4294967295 2 ∷ Nest 1 3 ∷ Seq order ∷ [])
+    (word 1 (32 ∷ []) ∷ word 4294967295 (97 ∷ []) ∷ word 1 (98 ∷ []) ∷ []) ([]) ([])
+
+nests-first : tried 80 1 0 (nests-doc (4 ∷ 0 ∷ 1 ∷ [])) ample ≡ refusal 25 0 (counted 3 0 3 0 0 0 0 0 0)
+unfolding tried
+nests-first = refl
+
+texts-first : tried 80 1 0 (nests-doc (0 ∷ 1 ∷ 4 ∷ [])) ample ≡ refusal 11 0 (counted 4 0 3 1 0 1 1 0 0)
+unfolding tried
+texts-first = refl
+
+-- Seqs of node k twice, of that twice, and so on
+abbrev doublings : ℕ → ℕ → List Node
+doublings k zero = []
+doublings k (suc n) = Seq (k ∷ k ∷ []) ∷ doublings (suc k) n
+
+abbrev fines-doc : ℕ → Prepared
+fines-doc n = prepared (1 + n) (Empty ∷ Penalty 4294967295 0 ∷ doublings 1 n)
+    (word 1 (32 ∷ []) ∷ []) ([]) ([])
+
+-- 26 by the burden; one doubling less has its place, and the plan is walked
+fines-33 : tried 80 1 0 (fines-doc 33) ample ≡ refusal 26 0 (counted 102 33 35 34 0 1 34 0 0)
+unfolding tried
+fines-33 = refl
+
+fines-32 : tried 80 1 0 (fines-doc 32) (bounds 64 64 64 16 64 64 8 64 8 1000 0) ≡ refusal 22 0 (counted 100 32 34 34 0 1 34 34 0)
+unfolding tried
+fines-32 = refl
+
+abbrev vast : Bounds
+vast = bounds 256 256 256 16 256 256 8 64 8 1000 1000
+
+abbrev lines-doc : ℕ → Prepared
+lines-doc n = prepared (1 + n) (HardLine ∷ Nest 4294967295 0 ∷ doublings 1 n)
+    (word 1 (32 ∷ []) ∷ []) ([]) ([])
+
+-- 26 by the overflow; one doubling less has its place, but at newline cost 1 it is 26 by the burden
+lines-65 : tried 1 0 0 (lines-doc 65) vast ≡ refusal 26 0 (counted 391 128 133 130 0 1 132 0 0)
+unfolding tried
+lines-65 = refl
+
+lines-64 : tried 1 0 0 (lines-doc 64) (bounds 256 256 256 16 256 256 8 64 8 1000 0) ≡ refusal 22 0 (counted 386 126 131 129 0 1 131 129 0)
+unfolding tried
+lines-64 = refl
+
+lines-64-1 : tried 1 1 0 (lines-doc 64) vast ≡ refusal 26 0 (counted 385 126 131 128 0 1 130 0 0)
+unfolding tried
+lines-64-1 = refl
 
 -- 12
 ab-work-1 : tried 80 1 0 ab-doc (bounds 64 64 64 16 64 32 8 64 8 1 1000) ≡ refusal 12 0 (counted 1 0 1 0 0 0 0 0 0)

@@ -1,5 +1,5 @@
--- The theorem: whatever the bounds, the answer is the page of the rule's answer, or one of the refusals 11 to 22.
-use Prim.Native.Nat.{ℕ, _≤_}
+-- The theorem: whatever the bounds, the answer is the page of the rule's answer, or a refusal by one of the machine's numbers.
+use Prim.Native.Nat.{ℕ}
 use native.Mathlib.Omega.{arith}
 use mathlib.Core.Bool.{Bool, true, false, cond, false≢true}
 use mathlib.Core.Path.{_≡_, refl, sym, ap₂, _∙_}
@@ -15,6 +15,7 @@ use Rattle.layout.specs.Cheapest.{FirstCheapest}
 use Rattle.layout.specs.Reading.{document, document-reads}
 use Rattle.layout.specs.Telescope.{price-is}
 use Rattle.layout.specs.Answers.{front-answer}
+use Rattle.machine.specs.Numbers.{MachineNumbered, listed, indent, cost}
 use Rattle.machine.specs.Events.{Bounds, Counts, no-counts, Kind, stack, memo, kept, frontier, plans, visit, depth, output, spans, passes, counted, needed, why, Why, domain, work-spent, too-small, visits-spent, impossible, number, Prog, Out, done, stop, run}
 use Rattle.machine.specs.Events.{Event, Need, Within, Hit, Miss, Generated, Visit, Pruned, Peak, Entries, PlanNodes, Never}
 use Rattle.machine.specs.Model.{Prepared, plan-at}
@@ -62,28 +63,28 @@ post-run {Q = Q} b k (says {e = e} {p = p} c h) = go (passes b k e) refl (post-r
     go true q r = r
     go false q r = halted (why-real b k e c q)
 
-domain-low : (r : Reason) → (11 ≤ number (domain r)) × (number (domain r) ≤ 22)
-domain-low Column = (omega arith, omega arith)
-domain-low Indent = (omega arith, omega arith)
-domain-low Overflow = (omega arith, omega arith)
-domain-low Burden = (omega arith, omega arith)
+domain-numbered : (r : Reason) → MachineNumbered (number (domain r))
+domain-numbered Column = listed (omega arith) (omega arith)
+domain-numbered Indent = indent refl
+domain-numbered Overflow = cost refl
+domain-numbered Burden = cost refl
 
-small-low : (x : Kind) → (11 ≤ number (too-small x)) × (number (too-small x) ≤ 22)
-small-low stack = (omega arith, omega arith)
-small-low memo = (omega arith, omega arith)
-small-low kept = (omega arith, omega arith)
-small-low frontier = (omega arith, omega arith)
-small-low plans = (omega arith, omega arith)
-small-low visit = (omega arith, omega arith)
-small-low depth = (omega arith, omega arith)
-small-low output = (omega arith, omega arith)
-small-low spans = (omega arith, omega arith)
+small-numbered : (x : Kind) → MachineNumbered (number (too-small x))
+small-numbered stack = listed (omega arith) (omega arith)
+small-numbered memo = listed (omega arith) (omega arith)
+small-numbered kept = listed (omega arith) (omega arith)
+small-numbered frontier = listed (omega arith) (omega arith)
+small-numbered plans = listed (omega arith) (omega arith)
+small-numbered visit = listed (omega arith) (omega arith)
+small-numbered depth = listed (omega arith) (omega arith)
+small-numbered output = listed (omega arith) (omega arith)
+small-numbered spans = listed (omega arith) (omega arith)
 
-numbered : (w : Why) → Real w → (11 ≤ number w) × (number w ≤ 22)
-numbered (domain r) h = domain-low r
-numbered work-spent h = (omega arith, omega arith)
-numbered (too-small x) h = small-low x
-numbered visits-spent h = (omega arith, omega arith)
+numbered : (w : Why) → Real w → MachineNumbered (number w)
+numbered (domain r) h = domain-numbered r
+numbered work-spent h = listed (omega arith) (omega arith)
+numbered (too-small x) h = small-numbered x
+numbered visits-spent h = listed (omega arith) (omega arith)
 numbered impossible h = absurd h
 
 -- ---- the answer
@@ -97,7 +98,7 @@ pub record RightPage (R : Rules) (P : Prepared) (page : Rendered) : Type 0 where
 
 pub data Right (R : Rules) (P : Prepared) : Answer → Type 0 where
   right-page : {page : Rendered} {k : Counts} → RightPage R P page → Right R P (paged page k)
-  right-refusal : {n m : ℕ} {k : Counts} → 11 ≤ n → n ≤ 22 → Right R P (refused n m k)
+  right-refusal : {n m : ℕ} {k : Counts} → MachineNumbered n → Right R P (refused n m k)
 
 module _ (R : Rules) (L : Lawful R) (P : Prepared) (K : Ready P) where
   abbrev D : ℕ → Doc
@@ -123,4 +124,4 @@ module _ (R : Rules) (L : Lawful R) (P : Prepared) (K : Ready P) where
     where
       go : {o : Out Rendered} → Ran (RightPage R P) o → Right R P (answer-of o)
       go (ran h) = right-page h
-      go (halted {w = w} h) = let n = numbered w h in right-refusal (n .0) (n .1)
+      go (halted {w = w} h) = right-refusal (numbered w h)

@@ -5,6 +5,7 @@ use Prim.Native.Nat.{ℕ, _≤_, _<_}
 use lib.ListN.{length, take, drop}
 use Rattle.page_setting.specs.Setting.{settingAt}
 use Rattle.page_lines.specs.Lines.{refused-line, page-text}
+use Rattle.machine.specs.Numbers.{Numbered}
 use Rattle.machine.specs.Events.{Bounds, Counts}
 use Rattle.machine.specs.Materializer.{Rendered}
 use Rattle.machine.specs.Answer.{Answer, paged, refused}
@@ -49,10 +50,10 @@ pub data Printed (input : List ℕ) : List ℕ → Type 0 where
   wrong-setting : length input ≤ 32768 → (setting-fault input ≡ 0 → ⊥) → Printed input (refused-line (setting-fault input))
   answered : length input ≤ 32768 → setting-fault input ≡ 0 → (a : Answer) → Answers (Unit {0}) (file-in input) (settings-in input) page-bounds a → Printed input (text-of a)
 
--- the text of a page that is the rule's for the file, or of a refusal by one of document 01's numbers
+-- the text of a page that is the rule's for the file, or of a refusal by one of the numbers of documents 01 and 02
 pub data Right (input : List ℕ) : List ℕ → Type 0 where
   page : (r : Rendered) (k : Counts) → RulesPage (file-in input) (settings-in input) r → Right input (text-of (paged r k))
-  refusal : (n : ℕ) → 1 ≤ n → n ≤ 22 → Right input (refused-line n)
+  refusal : (n : ℕ) → Numbered n → Right input (refused-line n)
 
 -- the first r bytes are what the program writes, all of it; and what it writes is right
 pub record Prints (input out : List ℕ) (r : ℕ) : Type 0 where

@@ -1,4 +1,4 @@
--- There is exactly one text for each input, and it is right: a page in it is the rule's page, and any other text is a refusal by one of document 01's numbers.
+-- There is exactly one text for each input, and it is right: a page in it is the rule's page, and any other text is a refusal by one of the numbers of documents 01 and 02.
 use mathlib.Core.Path.{_≡_, refl, ap}
 use mathlib.Core.Bool.{Bool, true, false}
 use mathlib.Core.Logic.{by-cases}
@@ -15,6 +15,7 @@ use Rattle.file_fields.specs.Fields.{pick, got, byteAt, wordAt, nonzero, fieldA
 use Rattle.page_setting.specs.Setting.{settingAt, sMap, sWidth, sNewlineCost}
 use Rattle.page_lines.specs.Lines.{refused-line}
 use Rattle.file_encode.specs.Fields.{Bytes}
+use Rattle.machine.specs.Numbers.{listed}
 use Rattle.machine.specs.Answer.{Answer}
 use Rattle.answer.specs.Page.{Promised, right-page, right-refusal}
 use Rattle.answer.specs.Exactly.{answered as some-answer, answers-one}
@@ -94,16 +95,16 @@ some-text input =
 -- the text of an answer that is as promised is right
 pub right-answer : {input : List ℕ} {a : Answer} → Promised (file-in input) (settings-in input) a → Right input (text-of a)
 right-answer (right-page {r = r} {k = k} q) = page r k q
-right-answer (right-refusal {n = n} l h) = refusal n l h
+right-answer (right-refusal {n = n} h) = refusal n h
 
 pub right-fault : (input : List ℕ) → (setting-fault input ≡ 0 → ⊥) → Right input (refused-line (setting-fault input))
-right-fault input f = refusal (setting-fault input) (least (setting-fault input) f) (omega (arith, kept-setting input .small))
+right-fault input f = refusal (setting-fault input) (listed (least (setting-fault input) f) (omega (arith, kept-setting input .small)))
   where
     least : (n : ℕ) → (n ≡ 0 → ⊥) → 1 ≤ n
     least n f = omega (arith, f)
 
 pub right-long : (input : List ℕ) → Right input (refused-line 4)
-right-long input = refusal 4 (omega arith) (omega arith)
+right-long input = refusal 4 (listed (omega arith) (omega arith))
 
 -- every such text is right, whoever wrote it
 pub printed-right : (input : List ℕ) → Bytes input → {s : List ℕ} → Printed input s → Right input s

@@ -2,7 +2,7 @@
 use mathlib.Core.Path.{_≡_, sym, ap, ap₂, _∙_}
 use Prim.Native.Nat.{ℕ}
 use Rattle.cost.specs.declared.Reason.{Reason}
-use Rattle.cost.specs.declared.Reason.the-variants.{Column, Indent, Overflow, Burden}
+use Rattle.cost.specs.Value.{domain-number}
 use Rattle.machine.specs.Events.{number}
 use Rattle.stats.specs.declared.SolveStats.{SolveStats}
 use Rattle.solve_workspace.specs.declared.Why.{Why}
@@ -18,12 +18,9 @@ use Rattle.render.specs.declared.page.Drafted.the-variants.{Page, Refuse
 use Rattle.render.specs.Rendered.{with-counts}
 use Rattle.render.specs.Drafts.{drafted}
 
--- every domain refusal is 11
-pub domain-eleven : {w : Why} (r : Reason) → w ≡ Domain r → 11 ≡ number (reason w)
-domain-eleven Column e = ap (λ (x : Why). number (reason x)) (sym e)
-domain-eleven Indent e = ap (λ (x : Why). number (reason x)) (sym e)
-domain-eleven Overflow e = ap (λ (x : Why). number (reason x)) (sym e)
-domain-eleven Burden e = ap (λ (x : Why). number (reason x)) (sym e)
+-- what is past its width keeps its number
+pub domain-is : {w : Why} {n : ℕ} (r : Reason) → w ≡ Domain r → n ≡ domain-number r → n ≡ number (reason w)
+domain-is r e f = f ∙ ap (λ (x : Why). number (reason x)) (sym e)
 
 abbrev drawing : SolvedCore → ℕ → ℕ → ℕ → ℕ → ℕ → SolveStats → Draft
 drawing c x y n s v k = record { cost = c .cost; length = n; spans = s; visits = v; stats = k; root = c .root; plans = c .plans; texts = x; bytes = y }

@@ -84,12 +84,12 @@ fn page_number(e: Exhausted) -> u32
     }
 }
 
-// Document 01's number of why the solver stops.
+// The number of why the solver stops, by documents 01 and 02.
 fn solver_number(why: Why) -> u32
     ensures { λ r. ⌜ r ≡ number (reason why) ⌝ }
 {
     match why {
-        Why::Domain(_) => 11,
+        Why::Domain(past) => cost::domain_number(past),
         Why::Work => 12,
         Why::Stack => 13,
         Why::Memo => 14,

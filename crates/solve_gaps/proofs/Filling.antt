@@ -1,6 +1,8 @@
 -- Laws of a Fill's gaps.
 use mathlib.Core.Path.{_≡_, sym, ap, _∙_, subst}
+use mathlib.Core.Option.{none, some}
 use Prim.Native.Nat.{ℕ, suc, _+_, _<_, _^_}
+use native.Mathlib.Omega.{arith}
 use lib.ListN.{getD}
 use Rattle.cost.specs.Charge.{squared, text-cost}
 use Rattle.cost.specs.Cost.{Cost}
@@ -27,6 +29,9 @@ use Rattle.solve_workspace.specs.Rows.{survivor}
 pub use Rattle.solve_workspace.specs.Reading.{any-space}
 use Rattle.solve_workspace.specs.Runs.{leads-seq, halt, via}
 use Rattle.solve_workspace.specs.Costs.{text-fine, text-stop, column-go}
+use Rattle.solve_node.specs.declared.LeafCandidate.{LeafCandidate}
+use Rattle.solve_node.specs.declared.LeafCandidate.the-variants.{Candidate as ACandidate, Failed as NoPlace}
+use Rattle.solve_node.specs.Begun.{candidate-of}
 use Rattle.solve_gaps.specs.Gaps.{spacing, bounding, gap}
 
 pub space-small : (w column : ℕ) (r : Costed) (k : ConsumerCost) → outcome r ≡ text-outcome w column 1 → r ≡ Is k → column + 1 < 2 ^ 32
@@ -89,3 +94,12 @@ module _ (R : Rules) (P : Prepared) where
 
 pub present-as : {b : Bounds} {k : Counts} {a : Reached} {f : Registers → State} {x y : Scratch} (S : State) → x ≡ y → Meets b k (present x S) a f → Meets b k (present y S) a f
 present-as {b = b} {k = k} {a = a} {f = f} S e m = subst (λ z. Meets b k (present z S) a f) e m
+
+-- what has its place is not said to have none
+pub line-has-place : {A : Type 0} (r : LeafCandidate) (y : Reason) (x : Scratch) → candidate-of r ≡ some x → r ≡ NoPlace y → A
+line-has-place r y x e q =
+    let g : none ≡ some x = sym (ap candidate-of q) ∙ e in
+    let z : _≡_ {A = ℕ} 0 1 = cc in absurd (omega arith)
+
+pub line-is : (r : LeafCandidate) (c : ScratchCandidate) (x : Scratch) → candidate-of r ≡ some x → r ≡ ACandidate c → survivor (carried c) ≡ x
+line-is r c x e q = let g : some (survivor (carried c)) ≡ some x = sym (ap candidate-of q) ∙ e in cc

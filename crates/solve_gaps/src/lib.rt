@@ -5,13 +5,13 @@ ghost use Prim.Native.Nat.{_+_, _≤_, _<_};
 ghost use lib.ListN.{length};
 ghost use Rattle.frontier.specs.Candidates.{carried};
 ghost use Rattle.machine.specs.Model.{Prepared, range, got};
-ghost use Rattle.machine.specs.Solver.{push-gaps as gaps-pushed};
+ghost use Rattle.machine.specs.Solver.{push-gaps as gaps-pushed, present as presented, newline};
 ghost use Rattle.solve_workspace.specs.Meets.{Meets, counts};
 ghost use Rattle.solve_workspace.specs.Frames.{Keeps};
 ghost use Rattle.solve_workspace.specs.Lent.{regs, Held, reached};
 ghost use Rattle.solve_workspace.specs.Reading.{rules};
 ghost use Rattle.solve_workspace.specs.Rows.{Row, abs, survivor, candidate};
-ghost use Rattle.solve_builder.specs.Building.{Slots};
+ghost use Rattle.solve_builder.specs.Building.{Slots, Building, BuildingAt};
 ghost use Rattle.solve_gaps.specs.Gaps.{spacing, bounding, gap};
 use cost::ConsumerCost;
 use cost::Costed;
@@ -19,6 +19,7 @@ use cost::PreparedConsumerCostModel;
 use file_tables::TextId;
 use frontier::ScratchCandidate;
 use plan::PendingPlan;
+use solve_node::LeafCandidate;
 use solve_workspace::Bounds;
 use solve_workspace::Candidate;
 use solve_workspace::KEPT;
@@ -27,6 +28,25 @@ use solve_workspace::RenderOptions;
 use solve_workspace::START;
 use solve_workspace::Turn;
 use solve_workspace::Why;
+
+// A newline to an indent, presented after the space.
+fn present_newline(
+    options: RenderOptions,
+    b: Bounds,
+    g: &mut [u64],
+    frontier: &mut [u64],
+    indent: u32,
+) -> Turn
+    requires { ⌜ Building b (regs (now g)) (now frontier) × Held b (now g) ⌝ }
+    ensures meets { λ a. ⌜ ((P : Prepared) (ts rs ps es ks ns : List Row) → Meets b (counts (regs (now (g .entry)))) (presented (newline (rules options) P indent) (abs (regs (now (g .entry))) ts rs ps es ks (now (frontier .entry)) ns)) (reached a (now (g .exit))) (λ s. abs s ts rs ps es ks (now (frontier .exit)) ns)) ⌝ }
+    ensures building { λ a. ⌜ BuildingAt b (now (frontier .exit)) (reached a (now (g .exit))) ⌝ }
+    ensures keeps { λ a. ⌜ Keeps (regs (now (g .entry))) (reached a (now (g .exit))) ⌝ }
+{
+    match solve_node::newline_candidate(options, indent) {
+        LeafCandidate::Failed(reason) => Turn::Halted(Why::Domain(reason), 0),
+        LeafCandidate::Candidate(line) => solve_builder::present(b, g, frontier, line),
+    }
+}
 
 // The frontier of a space and of a newline.
 fn space_or_newline(
@@ -48,8 +68,7 @@ fn space_or_newline(
     let Turn::Going = a else {
         return a;
     };
-    let line = solve_node::newline_candidate(options, indent);
-    let a2 = solve_builder::present(b, g, frontier, line);
+    let a2 = present_newline(options, b, g, frontier, indent);
     let Turn::Going = a2 else {
         return a2;
     };

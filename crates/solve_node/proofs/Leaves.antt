@@ -1,6 +1,7 @@
 -- Laws of leaves, and of the children of sequences.
 use mathlib.Core.Path.{_≡_, refl, sym, ap, _∙_, subst}
 use mathlib.Core.Bool.{Bool, true, false}
+use mathlib.Core.Option.{some}
 use mathlib.Core.List.{List, []}
 use Prim.Native.Nat.{ℕ, zero, suc, _+_, _<_, _^_}
 use native.Mathlib.Omega.{arith}
@@ -10,7 +11,7 @@ use lib.ListN.{getD}
 use Rattle.file_tables.specs.Tables.{RowIs}
 use Rattle.cost.specs.Cost.{Cost, zero-cost}
 use Rattle.cost.specs.Charge.{squared, newline-cost}
-use Rattle.cost.specs.Value.{text-outcome, outcome, value}
+use Rattle.cost.specs.Value.{cost, past, text-outcome, outcome, value}
 use Rattle.cost.specs.declared.ConsumerCost.{ConsumerCost}
 use Rattle.cost.specs.declared.Reason.{Reason}
 use Rattle.cost.specs.declared.Costed.{Costed}
@@ -34,7 +35,7 @@ use Rattle.solve_node.specs.declared.LeafCandidate.{LeafCandidate}
 use Rattle.solve_node.specs.declared.LeafCandidate.the-variants.{Candidate as ACandidate, Failed as NoPlace}
 use Rattle.solve_node.specs.declared.NodeLink.{NodeLink}
 use Rattle.solve_node.specs.declared.NodeLink.the-variants.{Nothing}
-use Rattle.solve_node.specs.Begun.{ChildIs, Leafed, Filling}
+use Rattle.solve_node.specs.Begun.{ChildIs, Leafed, candidate-of, Filling}
 
 pub leafed-at : {R : Rules} {q : MemoKey} {r : LeafCandidate} {l x : Leaf} → l ≡ x → Leafed R x q r → Leafed R l q r
 leafed-at {R = R} {q = q} {r = r} e h = subst (λ y. Leafed R y q r) (sym e) h
@@ -43,13 +44,23 @@ pub empty-leaf : (R : Rules) (q : MemoKey) (z : Cost) (c : ScratchCandidate) →
 unfolding begin-empty
 empty-leaf R q z c f e = record { by = λ P b j S. rw (e, f) leads-refl }
 
-pub newline-is : (w n p indent : ℕ) (P : Prepared) (k : Cost) (c : ScratchCandidate) → k ≡ newline-cost (squared w) n indent → survivor (carried c) ≡ scratch k indent (Made (PlanNewline indent))
-    → survivor (carried c) ≡ newline (squares w n p) P indent
-newline-is w n p indent P k c f e = e ∙ ap (λ (x : Cost). scratch x indent (Made (PlanNewline indent))) f
+pub newline-is : (w n p indent : ℕ) (P : Prepared) (r : Costed) (k : ConsumerCost) (c : ScratchCandidate) → outcome r ≡ cost (newline-cost (squared w) n indent) → r ≡ Is k
+    → survivor (carried c) ≡ scratch (value k) indent (Made (PlanNewline indent)) → candidate-of (ACandidate c) ≡ some (newline (squares w n p) P indent)
+newline-is w n p indent P r k c f q e =
+    let g : cost (value k) ≡ cost (newline-cost (squared w) n indent) = sym (ap outcome q) ∙ f in
+    let v : value k ≡ newline-cost (squared w) n indent = cc in
+    ap some (e ∙ ap (λ (x : Cost). scratch x indent (Made (PlanNewline indent))) v)
 
-pub newline-leaf : (R : Rules) (q : MemoKey) (c : ScratchCandidate) → ((P : Prepared) → survivor (carried c) ≡ newline R P (q .indent)) → Leafed R Newline q (ACandidate c)
+-- what has its place is not said to have none
+pub newline-has-place : {A : Type 0} (r : Costed) (y : Reason) (x : Cost) → outcome r ≡ cost x → r ≡ Failed y → A
+newline-has-place r y x f q =
+    let g : past y ≡ cost x = sym (ap outcome q) ∙ f in
+    let z : _≡_ {A = ℕ} 0 1 = cc in absurd (omega arith)
+
+pub newline-leaf : (R : Rules) (q : MemoKey) (r : LeafCandidate) → ((P : Prepared) → candidate-of r ≡ some (newline R P (q .indent))) → Leafed R Newline q r
 unfolding begin-newline
-newline-leaf R q c e = record { by = λ P b j S. rw (e P) leads-refl }
+newline-leaf R q (ACandidate c) e = record { by = λ P b j S. let f : survivor (carried c) ≡ newline R P (q .indent) = (let g = e P in cc) in rw f leads-refl }
+newline-leaf R q (NoPlace y) e = record { by = λ P b s S f. let g = e P in let z : _≡_ {A = ℕ} 0 1 = cc in absurd (omega arith) }
 
 pub text-leaf : (w n p : ℕ) (q : MemoKey) (t : TextId) (width : ℕ) (r : Costed) (k : ConsumerCost) (c : ScratchCandidate) → outcome r ≡ text-outcome w (q .column) width → r ≡ Is k
     → survivor (carried c) ≡ scratch (value k) (q .column + width) (Made (PlanText (t .0))) → Leafed (squares w n p) (Text t width) q (ACandidate c)

@@ -14,7 +14,7 @@ use Rattle.file_tables.specs.Tables.{Tables}
 use Rattle.machine.specs.Events.{Counts, Prog, ret, emit, _>>=_, _>>_, Within}
 use Rattle.memo.specs.declared.CandidateRange.{CandidateRange}
 use Rattle.frontier.specs.Candidates.{carried}
-use Rattle.machine.specs.Model.{got, Prepared, ExactChoice, State, scratch, Made, PlanText, memo-key, CompleteAlias, CompleteAnnotate, CompletePenalty, ContinueSequence}
+use Rattle.machine.specs.Model.{got, Prepared, ExactChoice, State, Scratch, scratch, Made, PlanText, memo-key, CompleteAlias, CompleteAnnotate, CompletePenalty, ContinueSequence}
 use Rattle.machine.specs.Solver.{complete-singleton, begin-empty, begin-newline, begin-union, begin-nest, begin-choice, skip-choices, push-child, begin-kind, gap-if-fill, fill-boundary}
 use Rattle.solve_workspace.specs.Reading.{prepared, edge-part}
 use Rattle.solve_workspace.specs.Meets.{Meets, Leads, counts}
@@ -106,6 +106,11 @@ LeafedCase R l q (NoPlace y) = (P : Prepared) (b : Bounds) (s : Registers) (S : 
 
 pub record Leafed (R : Rules) (l : Leaf) (q : MemoKey) (r : LeafCandidate) : Type 0 where
   pub by : LeafedCase R l q r
+
+-- a leaf's candidate, or none where it has no place
+abbrev pub candidate-of : LeafCandidate → Option Scratch
+candidate-of (ACandidate c) = some (survivor (carried c))
+candidate-of (NoPlace y) = none
 
 -- r: the node is a Fill
 pub record Filling (n : Node) (r : Bool) : Type 0 where

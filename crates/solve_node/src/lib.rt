@@ -1,21 +1,21 @@
 // What a node's row says (laidout's PreparedNode), a leaf's one candidate, and the tasks that a node with children pushes first.
 // No run of an accepted file reads past a table's end.
 ghost use mathlib.Core.Path.{_≡_};
+ghost use mathlib.Core.Option.{some};
 ghost use mathlib.Core.List.{List, []};
 ghost use Prim.Native.Nat.{ℕ, _<_, _≤_, _-_};
 ghost use lib.ListN.{length, getD};
 ghost use Rattle.layout.specs.Rules.{Rules, policy};
 ghost use Rattle.machine.specs.Model.{Prepared};
 ghost use Rattle.machine.specs.Solver.{begin-union, begin-choice, push-alternatives, newline};
-ghost use Rattle.frontier.specs.Candidates.{carried};
 ghost use Rattle.file_tables.specs.Tables.{flat, width};
 ghost use Rattle.solve_workspace.specs.Meets.{Meets, counts};
 ghost use Rattle.solve_workspace.specs.Frames.{Keeps};
 ghost use Rattle.solve_workspace.specs.Lent.{regs, Held, reached};
-ghost use Rattle.solve_workspace.specs.Rows.{Row, abs, survivor};
+ghost use Rattle.solve_workspace.specs.Rows.{Row, abs};
 ghost use Rattle.solve_workspace.specs.Reading.{tables, rules, node-of-kind, node-of-row, edge-part};
 ghost use Rattle.machine.specs.Model.{children};
-ghost use Rattle.solve_node.specs.Begun.{Leafed, Filling, Begins, first-of, link-of, ChildIs, part-length, single-begun, inner-begun, Started, skipping, listing};
+ghost use Rattle.solve_node.specs.Begun.{Leafed, candidate-of, Filling, Begins, first-of, link-of, ChildIs, part-length, single-begun, inner-begun, Started, skipping, listing};
 use cost::ConsumerCost;
 use cost::Costed;
 use cost::PreparedConsumerCostModel;
@@ -554,16 +554,22 @@ fn text_candidate(options: RenderOptions, column: u32, text: TextId, width: u32)
     }
 }
 
-// A newline to an indent; a Fill's gaps have it too.
-pub fn newline_candidate(options: RenderOptions, indent: u32) -> ScratchCandidate
-    ensures { λ r. ⌜ ((P : Prepared) → survivor (carried r) ≡ newline (rules options) P indent) ⌝ }
+// A newline to an indent; a Fill's gaps have it too. It always has its place.
+pub fn newline_candidate(options: RenderOptions, indent: u32) -> LeafCandidate
+    ensures { λ r. ⌜ ((P : Prepared) → candidate-of r ≡ some (newline (rules options) P indent)) ⌝ }
 {
     let model = PreparedConsumerCostModel {
         width: options.width,
         newline_cost: options.newline_cost,
     };
-    let cost = ConsumerCost::newline(model, indent);
-    solve_workspace::scratch_candidate(cost, indent, PendingPlan::Newline { indent: indent })
+    match ConsumerCost::newline(model, indent) {
+        Costed::Failed(reason) => LeafCandidate::Failed(reason),
+        Costed::Cost(cost) => LeafCandidate::Candidate(solve_workspace::scratch_candidate(
+            cost,
+            indent,
+            PendingPlan::Newline { indent: indent },
+        )),
+    }
 }
 
 pub fn leaf_candidate(options: RenderOptions, key: MemoKey, leaf: Leaf) -> LeafCandidate
@@ -576,7 +582,7 @@ pub fn leaf_candidate(options: RenderOptions, key: MemoKey, leaf: Leaf) -> LeafC
             PendingPlan::Empty,
         )),
         Leaf::Text { text, width } => text_candidate(options, key.column, text, width),
-        Leaf::Newline => LeafCandidate::Candidate(newline_candidate(options, key.indent)),
+        Leaf::Newline => newline_candidate(options, key.indent),
     }
 }
 

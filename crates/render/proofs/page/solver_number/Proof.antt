@@ -1,7 +1,13 @@
-use Rattle.render.proofs.Answered.{domain-eleven}
+use Rattle.render.proofs.Answered.{domain-is}
 use borrow.Author.Needs.{needs}
 use Rattle.render.proofs.page.solver_number.Statement.{statement}
 use Rattle.render.proofs.page.solver_number.Tie as tie
+
+enum-known-why : tie.Need-enum-known-why
+enum-known-why c = search needs
+
+domain-number-requires : tie.Need-domain-number-requires
+domain-number-requires c κs = search needs
 
 enum-told : tie.Need-enum-told
 enum-told c = search needs
@@ -21,11 +27,8 @@ enum-told-5 c = search needs
 enum-told-6 : tie.Need-enum-told-6
 enum-told-6 c = search needs
 
-enum-told-7 : tie.Need-enum-told-7
-enum-told-7 c = search needs
-
 returns : tie.Need-returns
-returns c = domain-eleven _ (c .enum-told .given .1)
+returns c = domain-is _ (c .before .before .why .given .1) (c .domain-number .ensures)
 
 returns-2 : tie.Need-returns-2
 returns-2 c = search needs
@@ -49,13 +52,14 @@ pub solver-number-spec : {M : Type 1} → statement M
 solver-number-spec =
     tie.close
     (tie.spec
+    enum-known-why
+    domain-number-requires
     enum-told
     enum-told-2
     enum-told-3
     enum-told-4
     enum-told-5
     enum-told-6
-    enum-told-7
     returns
     returns-2
     returns-3
