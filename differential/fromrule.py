@@ -331,8 +331,7 @@ class Machine(Rule):
         self.push(self.results, found)
 
     def sum(self, a, b):
-        refuse_if(a[0] + b[0] >= 2 ** 128, 11)
-        refuse_if(a[1] + b[1] >= 2 ** 64, 11)
+        refuse_if(a[0] + b[0] >= 2 ** 128 or a[1] + b[1] >= 2 ** 64, 26)
         return a[0] + b[0], a[1] + b[1]
 
     def text(self, c, w):
@@ -386,7 +385,7 @@ class Machine(Rule):
             else:
                 self.then((self.unite, key), (n.first, c, i), (flat, c, i))
         elif n.kind == 'Nest':
-            refuse_if(i + n.first >= 2 ** 32, 11)
+            refuse_if(i + n.first >= 2 ** 32, 25)
             self.then((self.pass_on, key), (n.second, c, self.lowered(i + n.first)))
         elif n.kind == 'Align':
             self.then((self.pass_on, key), (n.first, c, self.lowered(c)))

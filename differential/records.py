@@ -8,7 +8,7 @@ record less than its size says, which is refused by 1.
 import collections, os, shutil, struct, subprocess, sys, tempfile
 
 # The interpreter stops after 10,000,000 steps: calls of more work or visits are left out, and so many are made in one run.
-MOST, AT_ONCE = 1000, 60
+MOST, AT_ONCE = 1000, 40
 HERE = os.path.dirname(os.path.abspath(__file__))
 LISTED = 'test_records: file_tables cost stats spans solve_workspace printer io libc\n'
 

@@ -32,7 +32,7 @@ enum {
 
 /* The words of an answer. */
 enum {
-    GANNOZHI_NUMBER,         /* of the refusal, 1 to 22; 0: there is a page */
+    GANNOZHI_NUMBER,         /* of the refusal, 1 to 22, 25 or 26; 0: there is a page */
     GANNOZHI_NEEDED,         /* size that is needed: 13 to 21; else 0 */
     GANNOZHI_LENGTH,         /* bytes of the page, at the front of the output */
     GANNOZHI_SPAN_COUNT,     /* spans, at the front of the rows */
@@ -58,7 +58,8 @@ static inline const char *gannozhi_refusal(uint32_t number) {
         "", "order",
         "short", "form", "limit", "surplus", "reference", "text", "space", "circle", "list", /* the file: 2 to 10 */
         "domain", "work", "stack", "memo", "kept", "frontier", "plans",                      /* the solver: 11 to 17 */
-        "visit", "depth", "output", "spans", "visits"};                                      /* the materializer: 18 to 22 */
+        "visit", "depth", "output", "spans", "visits",                                       /* the materializer: 18 to 22 */
+        "", "", "indent", "cost"};                                                           /* the solver again: 25 and 26 */
     return number < sizeof words / sizeof *words ? words[number] : "";
 }
 

@@ -160,6 +160,8 @@ pub fn refusal(number: u32) -> &'static str {
         20 => "output",
         21 => "spans",
         22 => "visits",
+        25 => "indent",
+        26 => "cost",
         _ => "",
     }
 }

@@ -2,9 +2,9 @@
 
 use gannozhi::*;
 
-/// Those of 1 to 22 in document 01.
+/// Those of 1 to 22, as in document 01, of 25 and of 26; 23 and 24 have none.
 const WORDS: &str = "order short form limit surplus reference text space circle list domain work \
-    stack memo kept frontier plans visit depth output spans visits";
+    stack memo kept frontier plans visit depth output spans visits   indent cost";
 
 const FILE: &[u8] = include_bytes!("../../../samples/annotated.prepared");
 const SETTINGS: Settings = Settings { width: 24, newline_cost: 1, policy: 0 };
@@ -17,8 +17,8 @@ fn page(file: &[u8], settings: Settings, sizes: Sizes, limits: Limits) -> Result
 
 #[test]
 fn words() {
-    assert_eq!((1..=22).map(refusal).collect::<Vec<_>>().join(" "), WORDS);
-    for none in [0, 23, u32::MAX] {
+    assert_eq!((1..=26).map(refusal).collect::<Vec<_>>().join(" "), WORDS);
+    for none in [0, 23, 24, 27, u32::MAX] {
         assert_eq!(refusal(none), "");
     }
 }
@@ -67,16 +67,42 @@ fn of_the_file() {
         (9, format!("{H} 0008 {SP}")),
         // a choice list of one
         (10, format!("15 02000000 01000000 01000000 1309 01000000 01000000 01000000 0000 01000000 {SP}")),
+        // a Seq of texts of widths 2^32 - 1 and 1
+        (11, format!("07 03000000 02000000 02000000 0204 02000000 0101 01000000 0001 01000000 02000000 {SP} 01 ffffffff")),
         // Nest 1 over Nest 2^32 - 1
-        (11, format!("05 03000000 01000000 0307 01000000 01000000 0307 ffffffff 02000000 0000 {SP}")),
+        (25, format!("05 03000000 01000000 0307 01000000 01000000 0307 ffffffff 02000000 0000 {SP}")),
     ] {
         let digits: Vec<u8> = file.chars().filter_map(|c| c.to_digit(16)).map(|digit| digit as u8).collect();
         let file: Vec<u8> = digits.chunks(2).map(|pair| pair[0] << 4 | pair[1]).collect();
         let refused = page(&file, SETTINGS, Sizes::PAGE, LIMITS).unwrap_err();
         assert_eq!(refused.to_string(), format!("refused {number} {}", refusal(number)));
-        // 11 is found by the solver: the file is right.
+        // 11 and 25 are found by the solver: the file is right.
         let read = Printer::new(Sizes::PAGE).read(&file).map(|counts| counts.nodes);
         assert_eq!(read, if number < 11 { Err(number) } else { Ok(3) });
+    }
+}
+
+/// A Penalty of 2^32 - 1 over an Empty, and Seqs of the node before twice, 33 of them: a burden of 2^65 - 2^33. At 32 of them it has
+/// its place, and the page has too many parts to be walked.
+#[test]
+fn cost() {
+    for (doublings, said) in [(33, "refused 26 cost"), (32, "refused 22 visits")] {
+        let mut file = vec![0x27];
+        for word in [doublings + 2, 2 * doublings, 1, doublings + 1] {
+            file.extend(u32::to_le_bytes(word));
+        }
+        file.extend([0, 0, 1, 11, 255, 255, 255, 255]);
+        file.extend([2, 4, 2, 0, 0, 0]);
+        for k in 1..doublings {
+            file.extend([3, 4]);
+            file.extend(u32::to_le_bytes(2 * k));
+            file.extend(u32::to_le_bytes(2));
+        }
+        for k in 0..doublings {
+            file.extend([u32::to_le_bytes(k + 1); 2].concat());
+        }
+        file.extend([3, 1, 0, 0, 0, 1, 0, 0, 0, 32]);
+        assert_eq!(page(&file, SETTINGS, Sizes::PAGE, LIMITS).unwrap_err().to_string(), said);
     }
 }
 

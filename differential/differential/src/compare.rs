@@ -20,7 +20,7 @@ pub struct Tally {
     /// Of these, by the reference.
     pub by_reference: u64,
     /// By number of refusal; 0 is a page.
-    pub answers: [u64; 23],
+    pub answers: [u64; 27],
     pub enumerated: u64,
     pub layouts: u64,
     pub ties: u64,
@@ -37,6 +37,8 @@ pub struct Tally {
     pub ill: u64,
     pub past_64: u64,
     pub limit_checks: u64,
+    /// Documents drawn apart, in which something comes near the end of its width.
+    pub near: u64,
     /// Domain refusals by reason: column, indent, overflow, burden.
     pub reasons: [u64; 4],
     pub peak_frontier: u64,

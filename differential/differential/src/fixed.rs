@@ -72,6 +72,16 @@ fn hex(text: &str) -> Vec<u8> {
     from_hex(&text.replace('h', h).replace("sp", sp)).expect("hexadecimal")
 }
 
+/// Choice(Empty, Nest 1 over Nest 2^32 - 1 over Empty).
+fn wide_choice() -> Vec<u8> {
+    let mut b = Build::new();
+    let empty = b.node(kind::EMPTY, 0, 0);
+    let inner = b.node(kind::NEST, u32::MAX, empty);
+    let nests = b.node(kind::NEST, 1, inner);
+    b.node(kind::CHOICE, empty, nests);
+    b.file()
+}
+
 pub fn cases() -> Vec<Case> {
     let mut list = Vec::new();
     let mut add = |name, file: Vec<u8>, settings, sizes, limits, want| {
@@ -121,8 +131,8 @@ pub fn cases() -> Vec<Case> {
         b.node(kind::NEST, 1, inner);
         b.file()
     };
-    add("Nest 1 over Nest 2^32-1", nests(), usual, page, none, Refused(11, 0, Some(2)));
-    add("Nest 1 over Nest 2^32-1, policy 1", nests(), settings(80, 1, 1), page, none, Refused(11, 0, Some(2)));
+    add("Nest 1 over Nest 2^32-1", nests(), usual, page, none, Refused(25, 0, Some(2)));
+    add("Nest 1 over Nest 2^32-1, policy 1", nests(), settings(80, 1, 1), page, none, Refused(25, 0, Some(2)));
     let line = || {
         let mut b = Build::new();
         let line = b.node(kind::HARD_LINE, 0, 0);
@@ -287,7 +297,7 @@ pub fn cases() -> Vec<Case> {
     add("25: a page although a layout passes 2^32 columns", choice(false), usual, page, none, Page("y", 0, 0, None));
     for (name, times, want) in [
         ("26: overflow doubled 64 times", 64, Refused(20, 32_769, None)),
-        ("26: overflow doubled 65 times", 65, Refused(11, 0, None)),
+        ("26: overflow doubled 65 times", 65, Refused(26, 0, None)),
     ] {
         let mut b = Build::new();
         let line = b.node(kind::HARD_LINE, 0, 0);
@@ -297,7 +307,7 @@ pub fn cases() -> Vec<Case> {
     }
     for (name, times, want) in [
         ("26: burden doubled 32 times", 32, Refused(22, 0, None)),
-        ("26: burden doubled 33 times", 33, Refused(11, 0, None)),
+        ("26: burden doubled 33 times", 33, Refused(26, 0, None)),
     ] {
         let mut b = Build::new();
         let empty = b.node(kind::EMPTY, 0, 0);
@@ -305,6 +315,62 @@ pub fn cases() -> Vec<Case> {
         b.doubled(penalty, times);
         add(name, b.file(), settings(1, 0, 0), page, none, want);
     }
+
+    // What has no place (103 to 107).
+    let wide = |kind: u8, order: &[usize]| {
+        let mut b = Build::new();
+        let texts = [b.wide("x", u32::MAX), b.text("y")];
+        let empty = b.node(kind::EMPTY, 0, 0);
+        let inner = b.node(kind::NEST, u32::MAX, empty);
+        let nests = b.node(kind::NEST, 1, inner);
+        let all = [texts[0], texts[1], nests, empty];
+        b.list(kind, &order.iter().map(|at| all[*at]).collect::<Vec<_>>());
+        b.file()
+    };
+    add("103: 25 although a page exists", wide_choice(), usual, page, none, Refused(25, 0, None));
+    add("104: two Nests first", wide(kind::SEQ, &[2, 0, 1]), usual, page, none, Refused(25, 0, Some(3)));
+    add("104: two texts first", wide(kind::SEQ, &[0, 1, 2]), usual, page, none, Refused(11, 0, Some(4)));
+    add("104: a Fill's space", wide(kind::FILL, &[0, 3]), usual, page, none, Refused(11, 0, Some(3)));
+    let deep = || {
+        let mut b = Build::new();
+        let pair = [b.node(kind::HARD_LINE, 0, 0), b.text("y")];
+        let both = b.list(kind::SEQ, &pair);
+        b.node(kind::NEST, u32::MAX, both);
+        b.file()
+    };
+    add("105: a text after the deepest newline", deep(), usual, page, none, Refused(11, 0, Some(5)));
+    add(
+        "105: the deepest newline lowered",
+        deep(),
+        settings(80, 1, 1),
+        page,
+        none,
+        Page("\n                                                                               y", 0, 1, Some(7)),
+    );
+    let mut b = Build::new();
+    let line = b.node(kind::HARD_LINE, 0, 0);
+    let nest = b.node(kind::NEST, u32::MAX, line);
+    b.doubled(nest, 64);
+    add("106: burden of 2^64 newlines", b.file(), settings(1, 1, 0), page, none, Refused(26, 0, Some(385)));
+    // Burden 2^64 - 2^32, and so much more.
+    let charged = |amounts: &[u32], fill: bool| {
+        let mut b = Build::new();
+        let empty = b.node(kind::EMPTY, 0, 0);
+        let penalty = b.node(kind::PENALTY, u32::MAX, empty);
+        let mut node = b.doubled(penalty, 32);
+        for amount in amounts {
+            node = b.node(kind::PENALTY, *amount, node);
+        }
+        if fill {
+            b.list(kind::FILL, &[node, empty]);
+        }
+        b.file()
+    };
+    let dear = settings(80, u32::MAX, 0);
+    add("107: a charge has its place", charged(&[u32::MAX], false), usual, page, none, Refused(22, 0, None));
+    add("107: a charge has none", charged(&[u32::MAX, 1], false), usual, page, none, Refused(26, 0, None));
+    add("107: a gap has its place", charged(&[], true), dear, page, none, Refused(22, 0, None));
+    add("107: a gap has none", charged(&[1], true), dear, page, none, Refused(26, 0, None));
 
     // The texts (97 to 100).
     for (name, text) in [

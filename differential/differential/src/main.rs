@@ -174,8 +174,8 @@ fn report(comparer: &Comparer, seed: u64, start: Instant) {
         tally.texts, tally.wide_texts[0], tally.wide_texts[1], tally.ill
     );
     println!(
-        "11 by reason: column {}, indent {}, overflow {}, burden {}; largest frontier {}; frontiers presented alone {}",
-        tally.reasons[0], tally.reasons[1], tally.reasons[2], tally.reasons[3], tally.peak_frontier, tally.presented
+        "11, 25, 26 by reason: column {}, indent {}, overflow {}, burden {}; documents near the end of a width {}; largest frontier {}; frontiers presented alone {}",
+        tally.reasons[0], tally.reasons[1], tally.reasons[2], tally.reasons[3], tally.near, tally.peak_frontier, tally.presented
     );
     println!(
         "writer's refusals 3, 4, 6 to 10: {:?}",
@@ -272,10 +272,34 @@ fn document(comparer: &mut Comparer, seed: u64, index: u64) {
         refused_alike(comparer, &tables);
         damaged_file(comparer, &Call { file: &model::file::bytes(&tables), sizes: Sizes::PAGE, ..call });
     }
-    let reference = reference::access::document(&tables);
-    let both = Some((&tables, &reference));
+    calls(comparer, rng, &call, &tables);
+    near_the_end(comparer, seed, index);
+}
+
+/// For one document in ten another one, in which something comes near the end of its width. It has a generator of its own, so the others
+/// go on as without it.
+fn near_the_end(comparer: &mut Comparer, seed: u64, index: u64) {
+    let mut rng = Rng::of_case(seed ^ 1 << 63, index);
+    if !rng.chance(10) {
+        return;
+    }
+    comparer.tally.near += 1;
+    let tables = generate::files::tables(&mut rng, Profile::Near);
+    let mut settings = generate::settings(&mut rng, true);
+    if rng.chance(2) {
+        // Or the burden of so many newlines passes its width before their overflow.
+        settings.newline_cost = 0;
+    }
+    let file = model::file::encode(&tables).expect("generated tables have the form");
+    calls(comparer, &mut rng, &Call { file: &file, settings, sizes: PROBE, limits: LIMITS }, &tables);
+}
+
+/// An accepted file with sizes and limits about its needs.
+fn calls(comparer: &mut Comparer, rng: &mut Rng, call: &Call, tables: &Tables) {
+    let reference = reference::access::document(tables);
+    let both = Some((tables, &reference));
     // Without the reference: what is needed, as far as the limits let it come.
-    let (probe, trace) = model::render(&tables, &settings, &PROBE, &LIMITS);
+    let (probe, trace) = model::render(tables, &call.settings, &PROBE, &LIMITS);
     let exact = Sizes::of(trace.needs.map(|need| need.min(u64::from(u32::MAX)) as u32));
     if let Ok(page) = &probe {
         comparer.tally.past_64 += u64::from(page.overflow >> 64 > 0);
@@ -284,24 +308,24 @@ fn document(comparer: &mut Comparer, seed: u64, index: u64) {
         // Too much work for a run to the end: only sizes that stop it before.
         for _ in 0..3 {
             let sizes = Sizes::of(exact.list().map(|size| rng.within(0, size / 2)));
-            let _ = comparer.call(&Call { sizes, ..call }, both);
+            let _ = comparer.call(&Call { sizes, ..*call }, both);
         }
         return;
     }
     // Too many visits: the reference has no limit for them, so it is stopped at the first.
     let exact = if number(&probe) == 22 { Sizes { visit: 0, ..exact } } else { exact };
-    let answer = comparer.call(&Call { sizes: exact, ..call }, both);
+    let answer = comparer.call(&Call { sizes: exact, ..*call }, both);
     if answer != probe && !matches!(number(&probe), 20 | 22) {
-        comparer.difference("the same at exact sizes", &call, &format!("{answer:?}"), &format!("{probe:?}"));
+        comparer.difference("the same at exact sizes", call, &format!("{answer:?}"), &format!("{probe:?}"));
     }
-    comparer.enumerate(&call, &tables, &answer);
+    comparer.enumerate(call, tables, &answer);
     // One below, at, one above the need of one kind or of several.
     let kinds: Vec<usize> = (0..9).filter(|kind| exact.list()[*kind] > 0).collect();
     for _ in 0..3 {
         let mut list = exact.list();
         let kind = rng.pick(&kinds);
         list[kind] -= 1;
-        let _ = comparer.call(&Call { sizes: Sizes::of(list), ..call }, both);
+        let _ = comparer.call(&Call { sizes: Sizes::of(list), ..*call }, both);
     }
     if kinds.len() > 1 {
         let mut list = exact.list();
@@ -309,17 +333,17 @@ fn document(comparer: &mut Comparer, seed: u64, index: u64) {
             let kind = rng.pick(&kinds);
             list[kind] = list[kind].saturating_sub(1);
         }
-        let _ = comparer.call(&Call { sizes: Sizes::of(list), ..call }, both);
+        let _ = comparer.call(&Call { sizes: Sizes::of(list), ..*call }, both);
     }
     let list = exact.list().map(|size| (size + rng.within(0, 2)).saturating_sub(rng.chance(6) as u32));
-    let _ = comparer.call(&Call { sizes: Sizes::of(list), ..call }, both);
+    let _ = comparer.call(&Call { sizes: Sizes::of(list), ..*call }, both);
     let list = exact.list().map(|size| if rng.chance(3) { rng.within(0, size) } else { size + rng.within(0, 1) });
-    let _ = comparer.call(&Call { sizes: Sizes::of(list), ..call }, both);
+    let _ = comparer.call(&Call { sizes: Sizes::of(list), ..*call }, both);
     if rng.chance(3) {
-        comparer.page(&call);
-        let _ = comparer.call(&Call { sizes: Sizes::PAGE, ..call }, both);
+        comparer.page(call);
+        let _ = comparer.call(&Call { sizes: Sizes::PAGE, ..*call }, both);
     }
-    limits(comparer, rng, &Call { sizes: exact, ..call }, both, &answer);
+    limits(comparer, rng, &Call { sizes: exact, ..*call }, both, &answer);
 }
 
 /// The writer gives the file, and needs exactly its length.

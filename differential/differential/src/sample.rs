@@ -18,16 +18,19 @@
 use common::{to_hex, Answer, Limits, Settings, Sizes, Tables};
 use generate::Rng;
 
-use crate::compare::{counts, number, Tally};
-use crate::fixed;
+use crate::compare::{counts, number, Call, Tally};
+use crate::fixed::{self, Case};
 
-/// How many of each answer: a page, then the refusals 1 to 22.
-const SHARE: [usize; 23] = [90, 3, 12, 14, 10, 6, 14, 14, 6, 8, 12, 16, 12, 14, 12, 12, 12, 12, 12, 10, 14, 10, 10];
+/// How many of each answer: a page, then the refusals 1 to 22, 25 and 26.
+const SHARE: [usize; 27] =
+    [90, 3, 12, 14, 10, 6, 14, 14, 6, 8, 12, 16, 12, 14, 12, 12, 12, 12, 12, 10, 14, 10, 10, 0, 0, 10, 10];
 const LONGEST_FILE: usize = 420;
+/// It takes many Seqs to pass the width of a cost.
+const LONGEST_FILE_OF_26: usize = 1_400;
 const LONGEST_PAGE: usize = 240;
 
 struct Sample {
-    left: [usize; 23],
+    left: [usize; 27],
     name: String,
 }
 
@@ -99,8 +102,10 @@ fn take(sample: &mut Sample, rng: &mut Rng, file: &[u8], settings: &Settings, si
         Ok(page) => page.bytes.len() <= LONGEST_PAGE && (page.bytes.len() > 6 || rng.chance(6)),
         Err(_) => true,
     };
-    let left = &mut sample.left[number(&answer) as usize];
-    if *left == 0 || !small || file.len() > LONGEST_FILE {
+    let number = number(&answer);
+    let longest = if number == 26 { LONGEST_FILE_OF_26 } else { LONGEST_FILE };
+    let left = &mut sample.left[number as usize];
+    if *left == 0 || !small || file.len() > longest {
         return;
     }
     *left -= 1;
@@ -178,6 +183,12 @@ pub fn print_page(seed: u64) {
     }
     let surplus = common::from_hex(&format!("{example} 0a")).expect("hexadecimal");
     show(&surplus);
+    // 11, 25 and 26.
+    let past = ["17: 11 before 12", "Nest 1 over Nest 2^32-1", "26: burden doubled 33 times"];
+    for case in fixed::cases().iter().filter(|case| past.contains(&case.name)) {
+        let Case { file, settings, sizes, limits, .. } = case;
+        show(&Call { file, settings: *settings, sizes: *sizes, limits: *limits }.input());
+    }
     for length in [32_768usize, 32_769] {
         println!("input REPEAT {length} 00\noutput {}\n", to_hex(&model::page(&vec![0; length])));
     }

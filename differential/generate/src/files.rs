@@ -43,6 +43,8 @@ pub enum Profile {
     Wide,
     /// Lines of widths near 2^32, a few times doubled: overflow past 2^64 on pages that can be made.
     Heavy,
+    /// One or two parts of which a column, an indent, an overflow or a burden comes near the end of its width. Not among `ALL`: drawn apart.
+    Near,
 }
 
 impl Profile {
@@ -60,7 +62,7 @@ impl Profile {
     ];
 
     pub fn extreme(self) -> bool {
-        matches!(self, Profile::Extreme | Profile::Doubling | Profile::Heavy)
+        matches!(self, Profile::Extreme | Profile::Doubling | Profile::Heavy | Profile::Near)
     }
 }
 
@@ -73,6 +75,7 @@ pub fn tables(rng: &mut Rng, profile: Profile) -> Tables {
         Profile::Fill => build.fill(rng),
         Profile::Wide => build.wide(rng),
         Profile::Heavy => build.heavy(rng),
+        Profile::Near => build.near(rng),
         _ => {
             let most = match profile {
                 Profile::Small => 12,
@@ -253,6 +256,58 @@ impl Build {
                 node = self.any(rng);
             }
         }
+    }
+
+    fn near(&mut self, rng: &mut Rng) {
+        let mut parts: Vec<u32> = (0..rng.within(1, 2)).map(|_| self.part_near(rng)).collect();
+        let leaf = self.leaf(rng);
+        parts.insert(rng.index(parts.len() + 1), leaf);
+        match rng.below(5) {
+            0 => self.push(Node::of(kind::CHOICE, parts[0], parts[1])),
+            1 => self.sequence(rng, kind::FILL, parts),
+            _ => self.sequence(rng, kind::SEQ, parts),
+        };
+    }
+
+    fn part_near(&mut self, rng: &mut Rng) -> u32 {
+        match rng.below(4) {
+            0 => {
+                let text = self.tables.texts.len() as u32;
+                self.tables.texts.push(Text { width: u32::MAX - rng.within(0, 2), bytes: Vec::new() });
+                let pair = vec![self.push(Node::of(kind::TEXT, text, 0)), self.leaf(rng)];
+                let kind = rng.pick(&[kind::SEQ, kind::FILL]);
+                self.sequence(rng, kind, pair)
+            }
+            1 => {
+                let child = self.leaf(rng);
+                let inner = self.push(Node::of(kind::NEST, u32::MAX - rng.within(0, 2), child));
+                self.push(Node::of(kind::NEST, rng.within(0, 3), inner))
+            }
+            2 => {
+                let line = self.push(Node::of(kind::HARD_LINE, 0, 0));
+                let nest = self.push(Node::of(kind::NEST, u32::MAX - rng.within(0, 1), line));
+                let levels = rng.within(64, 68);
+                self.doubled(rng, nest, levels)
+            }
+            _ => {
+                let child = self.leaf(rng);
+                let charged = self.push(Node::of(kind::PENALTY, u32::MAX, child));
+                let levels = rng.within(31, 33);
+                let mut node = self.doubled(rng, charged, levels);
+                for _ in 0..rng.within(0, 2) {
+                    let amount = rng.pick(&[1, u32::MAX]);
+                    node = self.push(Node::of(kind::PENALTY, amount, node));
+                }
+                node
+            }
+        }
+    }
+
+    fn doubled(&mut self, rng: &mut Rng, mut node: u32, levels: u32) -> u32 {
+        for _ in 0..levels {
+            node = self.sequence(rng, kind::SEQ, vec![node, node]);
+        }
+        node
     }
 
     fn fill(&mut self, rng: &mut Rng) {

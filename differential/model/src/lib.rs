@@ -1,4 +1,4 @@
-//! A plain model of the whole answer, written from document 01 and docs/DECISIONS.md: the file's reader and writer, the solver, the
+//! A plain model of the whole answer, written from documents 01 and 02 and docs/DECISIONS.md: the file's reader and writer, the solver, the
 //! materializer, with every refusal, needed size and count. It shares no code with the reference and none with our library.
 //! The solver is a recursion over nodes that carries the heights of the machine's stacks as numbers; a frontier is a plain list.
 
@@ -17,7 +17,7 @@ use common::{Answer, Limits, Refusal, Settings, Sizes, Tables};
 pub struct Trace {
     /// The greatest need of each size (in the order of 13 to 21), as far as the run came.
     pub needs: [u64; 9],
-    /// What passed its width, where the answer is 11.
+    /// What passed its width, where the answer is 11, 25 or 26.
     pub reason: Option<Reason>,
 }
 
@@ -27,6 +27,17 @@ pub enum Reason {
     Indent,
     Overflow,
     Burden,
+}
+
+impl Reason {
+    /// Document 02, change 3.
+    fn number(self) -> u32 {
+        match self {
+            Reason::Column => 11,
+            Reason::Indent => 25,
+            Reason::Overflow | Reason::Burden => 26,
+        }
+    }
 }
 
 /// The whole answer for the bytes of a file.

@@ -94,7 +94,7 @@ impl Solver<'_, '_> {
         if value.is_none() {
             self.run.trace.reason = Some(reason);
         }
-        value.map_or_else(|| self.run.stop(11, 0), Ok)
+        value.map_or_else(|| self.run.stop(reason.number(), 0), Ok)
     }
 
     /// over(c)².

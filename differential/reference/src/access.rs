@@ -6,7 +6,7 @@ use std::sync::Arc;
 use common::{kind, Answer, Counts, Page, Refusal, Settings, Sizes, Span, Tables, Text};
 
 use crate::doc::FlatAlternative;
-use crate::kernel::access::{stats_at_domain_violation, visits};
+use crate::kernel::access::{domain_violation, visits};
 use crate::kernel::{
     render_into, solve_into, ExactSolveCapacity, FastSolveCapacity, IndentPolicy, LayoutStrategy, MaterializeCapacity,
     RenderCapacity, RenderError, RenderOptions, RenderWorkspace, SolveStats, VisitCapacity, WorkspaceResource,
@@ -217,8 +217,9 @@ pub fn render(document: &Document, settings: &Settings, sizes: &Sizes) -> Answer
             counts: counts(stats, 0),
         },
         RenderError::CostDomainViolation => {
-            let stats = stats_at_domain_violation(&document.prepared, options, &mut space);
-            Refusal { number: 11, needed: 0, counts: counts(stats.expect("the same stop again"), 0) }
+            let (number, stats) =
+                domain_violation(&document.prepared, options, &mut space).expect("the same stop again");
+            Refusal { number, needed: 0, counts: counts(stats, 0) }
         }
         other => panic!("the reference cannot answer so: {other:?}"),
     })

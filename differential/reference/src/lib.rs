@@ -13,24 +13,42 @@ splice::module_from! { "src/kernel.rs" => pub mod kernel {
         use super::*;
         use crate::prepare::PreparedDoc;
 
-        /// The statistics where the solver stops with `CostDomainViolation`, which carries none: the loop of `ExactSolver::solve`
-        /// over the reference's own steps.
-        pub fn stats_at_domain_violation<A>(
+        /// The number and the statistics where the solver stops with `CostDomainViolation`, which carries neither: the loop of
+        /// `ExactSolver::solve` over the reference's own steps, and which of them stops.
+        pub fn domain_violation<A>(
             prepared: &PreparedDoc<A>,
             options: RenderOptions,
             workspace: &mut RenderWorkspace,
-        ) -> Option<SolveStats> {
+        ) -> Option<(u32, SolveStats)> {
             workspace.reset_operation();
             let mut solver = ExactSolver::new(&prepared.0, options, workspace);
             let root = ExactTask::Eval { node: solver.data.root, column: 0, indent: 0 };
-            let mut result = solver.push_exact_task(root);
-            while result.is_ok() {
-                let Some(task) = solver.workspace.exact_work.pop() else { break };
-                result = solver.execute_task(task);
+            solver.push_exact_task(root).ok()?;
+            while let Some(task) = solver.workspace.exact_work.pop() {
+                let before = (solver.workspace.retained.len(), solver.workspace.exact_pending.len());
+                match solver.execute_task(task) {
+                    Ok(()) => {}
+                    Err(RenderError::CostDomainViolation) => return Some((past_in(&solver, task, before), solver.stats)),
+                    Err(_) => return None,
+                }
             }
-            match result {
-                Err(RenderError::CostDomainViolation) => Some(solver.stats),
-                _ => None,
+            None
+        }
+
+        /// Document 02's number for what has no place in a task: a Nest's indent (25), a sum (26), else a column (11). In a Fill's gap it
+        /// is a column unless a candidate of a finished frontier is not yet among the pending ones: its sum is what failed.
+        fn past_in<A>(solver: &ExactSolver<'_, A>, task: ExactTask, before: (usize, usize)) -> u32 {
+            match task {
+                ExactTask::Eval { node, .. } => match solver.data.nodes[node.index()] {
+                    PreparedNode::Nest { .. } => 25,
+                    _ => 11,
+                },
+                ExactTask::ContinueSequence { .. } => {
+                    let finished = solver.workspace.retained.len() - before.0;
+                    let joined = solver.workspace.exact_pending.len() - before.1;
+                    if joined < finished { 26 } else { 11 }
+                }
+                _ => 26,
             }
         }
 
