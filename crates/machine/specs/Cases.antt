@@ -261,18 +261,10 @@ abbrev lines-doc : ℕ → Prepared
 lines-doc n = prepared (1 + n) (HardLine ∷ Nest 4294967295 0 ∷ doublings 1 n)
     (word 1 (32 ∷ []) ∷ []) ([]) ([])
 
--- 26 by the overflow; one doubling less has its place, but at newline cost 1 it is 26 by the burden
+-- 26 by the overflow
 lines-65 : tried 1 0 0 (lines-doc 65) vast ≡ refusal 26 0 (counted 391 128 133 130 0 1 132 0 0)
 unfolding tried
 lines-65 = refl
-
-lines-64 : tried 1 0 0 (lines-doc 64) (bounds 256 256 256 16 256 256 8 64 8 1000 0) ≡ refusal 22 0 (counted 386 126 131 129 0 1 131 129 0)
-unfolding tried
-lines-64 = refl
-
-lines-64-1 : tried 1 1 0 (lines-doc 64) vast ≡ refusal 26 0 (counted 385 126 131 128 0 1 130 0 0)
-unfolding tried
-lines-64-1 = refl
 
 -- 12
 ab-work-1 : tried 80 1 0 ab-doc (bounds 64 64 64 16 64 32 8 64 8 1 1000) ≡ refusal 12 0 (counted 1 0 1 0 0 0 0 0 0)

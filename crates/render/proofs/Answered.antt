@@ -1,13 +1,8 @@
 -- Laws for the answers by value.
 use mathlib.Core.Path.{_≡_, sym, ap, ap₂, _∙_}
 use Prim.Native.Nat.{ℕ}
-use Rattle.cost.specs.declared.Reason.{Reason}
-use Rattle.cost.specs.Value.{domain-number}
 use Rattle.machine.specs.Events.{number}
 use Rattle.stats.specs.declared.SolveStats.{SolveStats}
-use Rattle.solve_workspace.specs.declared.Why.{Why}
-use Rattle.solve_workspace.specs.declared.Why.the-variants.{Domain}
-use Rattle.solve_workspace.specs.Meets.{reason}
 use Rattle.materialize.specs.Answer.{why-of}
 use Rattle.materialize.specs.declared.Exhausted.{Exhausted}
 use Rattle.materialize.specs.declared.Measured.{Measured}
@@ -17,10 +12,6 @@ use Rattle.render.specs.declared.page.Draft.{Draft}
 use Rattle.render.specs.declared.page.Drafted.the-variants.{Page, Refused}
 use Rattle.render.specs.Rendered.{with-counts}
 use Rattle.render.specs.Drafts.{drafted}
-
--- what is past its width keeps its number
-pub domain-is : {w : Why} {n : ℕ} (r : Reason) → w ≡ Domain r → n ≡ domain-number r → n ≡ number (reason w)
-domain-is r e f = f ∙ ap (λ (x : Why). number (reason x)) (sym e)
 
 abbrev drawing : SolvedCore → ℕ → ℕ → ℕ → ℕ → ℕ → SolveStats → Draft
 drawing c x y n s v k = record { cost = c .cost; length = n; spans = s; visits = v; stats = k; root = c .root; plans = c .plans; texts = x; bytes = y }

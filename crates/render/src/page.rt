@@ -3,7 +3,6 @@ ghost use mathlib.Core.Path.{_≡_};
 ghost use Prim.Native.Nat.{_≤_};
 ghost use lib.ListN.{length};
 ghost use Rattle.machine.specs.Events.{number};
-ghost use Rattle.solve_workspace.specs.Meets.{reason};
 ghost use Rattle.materialize.specs.Texts.{layout, InBytes};
 ghost use Rattle.materialize.specs.Answer.{why-of, Small, Lent};
 ghost use Rattle.materialize.specs.Writes.{Written};
@@ -84,25 +83,10 @@ fn page_number(e: Exhausted) -> u32
     }
 }
 
-// The number of why the solver stops, by documents 01 and 02.
-fn solver_number(why: Why) -> u32
-    ensures { λ r. ⌜ r ≡ number (reason why) ⌝ }
-{
-    match why {
-        Why::Domain(past) => cost::domain_number(past),
-        Why::Work => 12,
-        Why::Stack => 13,
-        Why::Memo => 14,
-        Why::Kept => 15,
-        Why::Frontier => 16,
-        Why::Plans => 17,
-    }
-}
-
 pub fn solver_refused(why: Why, needed: u64, stats: SolveStats) -> Drafted
     ensures { λ r. ⌜ r ≡ refusal why needed stats ⌝ }
 {
-    let number = solver_number(why);
+    let number = solve_workspace::solver_number(why);
     let mut counts = stats;
     counts.fit_checks = 0;
     Drafted::Refused {

@@ -31,7 +31,7 @@ use Rattle.solve_workspace.specs.Runs.{leads-seq, halt, via}
 use Rattle.solve_workspace.specs.Costs.{text-fine, text-stop, column-go}
 use Rattle.solve_node.specs.declared.LeafCandidate.{LeafCandidate}
 use Rattle.solve_node.specs.declared.LeafCandidate.the-variants.{Candidate as ACandidate, Failed as NoPlace}
-use Rattle.solve_node.specs.Begun.{candidate-of}
+use Rattle.solve_node.specs.Begun.{leaf-scratch}
 use Rattle.solve_gaps.specs.Gaps.{spacing, bounding, gap}
 
 pub space-small : (w column : ℕ) (r : Costed) (k : ConsumerCost) → outcome r ≡ text-outcome w column 1 → r ≡ Is k → column + 1 < 2 ^ 32
@@ -96,10 +96,10 @@ pub present-as : {b : Bounds} {k : Counts} {a : Reached} {f : Registers → Stat
 present-as {b = b} {k = k} {a = a} {f = f} S e m = subst (λ z. Meets b k (present z S) a f) e m
 
 -- what has its place is not said to have none
-pub line-has-place : {A : Type 0} (r : LeafCandidate) (y : Reason) (x : Scratch) → candidate-of r ≡ some x → r ≡ NoPlace y → A
+pub line-has-place : {A : Type 0} (r : LeafCandidate) (y : Reason) (x : Scratch) → leaf-scratch r ≡ some x → r ≡ NoPlace y → A
 line-has-place r y x e q =
-    let g : none ≡ some x = sym (ap candidate-of q) ∙ e in
+    let g : none ≡ some x = sym (ap leaf-scratch q) ∙ e in
     let z : _≡_ {A = ℕ} 0 1 = cc in absurd (omega arith)
 
-pub line-is : (r : LeafCandidate) (c : ScratchCandidate) (x : Scratch) → candidate-of r ≡ some x → r ≡ ACandidate c → survivor (carried c) ≡ x
-line-is r c x e q = let g : some (survivor (carried c)) ≡ some x = sym (ap candidate-of q) ∙ e in cc
+pub line-is : (r : LeafCandidate) (c : ScratchCandidate) (x : Scratch) → leaf-scratch r ≡ some x → r ≡ ACandidate c → survivor (carried c) ≡ x
+line-is r c x e q = let g : some (survivor (carried c)) ≡ some x = sym (ap leaf-scratch q) ∙ e in cc

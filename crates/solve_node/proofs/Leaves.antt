@@ -35,7 +35,7 @@ use Rattle.solve_node.specs.declared.LeafCandidate.{LeafCandidate}
 use Rattle.solve_node.specs.declared.LeafCandidate.the-variants.{Candidate as ACandidate, Failed as NoPlace}
 use Rattle.solve_node.specs.declared.NodeLink.{NodeLink}
 use Rattle.solve_node.specs.declared.NodeLink.the-variants.{Nothing}
-use Rattle.solve_node.specs.Begun.{ChildIs, Leafed, candidate-of, Filling}
+use Rattle.solve_node.specs.Begun.{ChildIs, Leafed, leaf-scratch, Filling}
 
 pub leafed-at : {R : Rules} {q : MemoKey} {r : LeafCandidate} {l x : Leaf} → l ≡ x → Leafed R x q r → Leafed R l q r
 leafed-at {R = R} {q = q} {r = r} e h = subst (λ y. Leafed R y q r) (sym e) h
@@ -45,7 +45,7 @@ unfolding begin-empty
 empty-leaf R q z c f e = record { by = λ P b j S. rw (e, f) leads-refl }
 
 pub newline-is : (w n p indent : ℕ) (P : Prepared) (r : Costed) (k : ConsumerCost) (c : ScratchCandidate) → outcome r ≡ cost (newline-cost (squared w) n indent) → r ≡ Is k
-    → survivor (carried c) ≡ scratch (value k) indent (Made (PlanNewline indent)) → candidate-of (ACandidate c) ≡ some (newline (squares w n p) P indent)
+    → survivor (carried c) ≡ scratch (value k) indent (Made (PlanNewline indent)) → leaf-scratch (ACandidate c) ≡ some (newline (squares w n p) P indent)
 newline-is w n p indent P r k c f q e =
     let g : cost (value k) ≡ cost (newline-cost (squared w) n indent) = sym (ap outcome q) ∙ f in
     let v : value k ≡ newline-cost (squared w) n indent = cc in
@@ -57,7 +57,7 @@ newline-has-place r y x f q =
     let g : past y ≡ cost x = sym (ap outcome q) ∙ f in
     let z : _≡_ {A = ℕ} 0 1 = cc in absurd (omega arith)
 
-pub newline-leaf : (R : Rules) (q : MemoKey) (r : LeafCandidate) → ((P : Prepared) → candidate-of r ≡ some (newline R P (q .indent))) → Leafed R Newline q r
+pub newline-leaf : (R : Rules) (q : MemoKey) (r : LeafCandidate) → ((P : Prepared) → leaf-scratch r ≡ some (newline R P (q .indent))) → Leafed R Newline q r
 unfolding begin-newline
 newline-leaf R q (ACandidate c) e = record { by = λ P b j S. let f : survivor (carried c) ≡ newline R P (q .indent) = (let g = e P in cc) in rw f leads-refl }
 newline-leaf R q (NoPlace y) e = record { by = λ P b s S f. let g = e P in let z : _≡_ {A = ℕ} 0 1 = cc in absurd (omega arith) }

@@ -108,9 +108,9 @@ pub record Leafed (R : Rules) (l : Leaf) (q : MemoKey) (r : LeafCandidate) : Typ
   pub by : LeafedCase R l q r
 
 -- a leaf's candidate, or none where it has no place
-abbrev pub candidate-of : LeafCandidate → Option Scratch
-candidate-of (ACandidate c) = some (survivor (carried c))
-candidate-of (NoPlace y) = none
+abbrev pub leaf-scratch : LeafCandidate → Option Scratch
+leaf-scratch (ACandidate c) = some (survivor (carried c))
+leaf-scratch (NoPlace y) = none
 
 -- r: the node is a Fill
 pub record Filling (n : Node) (r : Bool) : Type 0 where

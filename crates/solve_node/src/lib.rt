@@ -15,7 +15,7 @@ ghost use Rattle.solve_workspace.specs.Lent.{regs, Held, reached};
 ghost use Rattle.solve_workspace.specs.Rows.{Row, abs};
 ghost use Rattle.solve_workspace.specs.Reading.{tables, rules, node-of-kind, node-of-row, edge-part};
 ghost use Rattle.machine.specs.Model.{children};
-ghost use Rattle.solve_node.specs.Begun.{Leafed, candidate-of, Filling, Begins, first-of, link-of, ChildIs, part-length, single-begun, inner-begun, Started, skipping, listing};
+ghost use Rattle.solve_node.specs.Begun.{Leafed, leaf-scratch, Filling, Begins, first-of, link-of, ChildIs, part-length, single-begun, inner-begun, Started, skipping, listing};
 use cost::ConsumerCost;
 use cost::Costed;
 use cost::PreparedConsumerCostModel;
@@ -556,7 +556,7 @@ fn text_candidate(options: RenderOptions, column: u32, text: TextId, width: u32)
 
 // A newline to an indent; a Fill's gaps have it too. It always has its place.
 pub fn newline_candidate(options: RenderOptions, indent: u32) -> LeafCandidate
-    ensures { λ r. ⌜ ((P : Prepared) → candidate-of r ≡ some (newline (rules options) P indent)) ⌝ }
+    ensures { λ r. ⌜ ((P : Prepared) → leaf-scratch r ≡ some (newline (rules options) P indent)) ⌝ }
 {
     let model = PreparedConsumerCostModel {
         width: options.width,

@@ -4,14 +4,14 @@ ghost use mathlib.Core.Path.{_≡_};
 ghost use mathlib.Core.List.{List, []};
 ghost use Prim.Native.Nat.{ℕ, _+_, _≤_, _<_, _%_, _^_};
 ghost use lib.ListN.{length, getD};
-ghost use Rattle.machine.specs.Events.{ret, Hit, Miss};
+ghost use Rattle.machine.specs.Events.{ret, Hit, Miss, number};
 ghost use Rattle.layout.specs.Rules.{Rules};
 ghost use Rattle.machine.specs.Model.{Prepared, range, scratch, no-candidate, got};
 ghost use Rattle.machine.specs.Solver.{push-exact-task, push-exact-result, pop-exact-result, complete-node, push-child};
 ghost use Rattle.machine.specs.Solver.{memo-insert as inserting};
 ghost use Rattle.frontier.specs.Candidates.{carried};
 ghost use Rattle.cost.specs.Value.{value};
-ghost use Rattle.solve_workspace.specs.Meets.{Meets, counts, ticked};
+ghost use Rattle.solve_workspace.specs.Meets.{Meets, counts, ticked, reason};
 ghost use Rattle.solve_workspace.specs.Rows.{Row, abs, task-of, meant, plan-of, scratch-of, survivor, candidate, candidate-of, row-list};
 ghost use Rattle.solve_workspace.specs.Frames.{Keeps, SameMemo, Popped, Memory, MemoryAt};
 ghost use Rattle.solve_workspace.specs.Lent.{WORDS, regs, Held, reached};
@@ -73,6 +73,21 @@ pub enum Why {
     Kept,
     Frontier,
     Plans,
+}
+
+// The number of why the solver stops, by documents 01 and 02.
+pub fn solver_number(why: Why) -> u32
+    ensures { λ r. ⌜ r ≡ number (reason why) ⌝ }
+{
+    match why {
+        Why::Domain(past) => cost::domain_number(past),
+        Why::Work => 12,
+        Why::Stack => 13,
+        Why::Memo => 14,
+        Why::Kept => 15,
+        Why::Frontier => 16,
+        Why::Plans => 17,
+    }
 }
 
 // The solver goes on; or it stops, with the size that is needed (0 where no size is too small). The registers are the words that were lent.

@@ -1,7 +1,10 @@
-use Rattle.render.proofs.Answered.{domain-is}
+use mathlib.Core.Path.{ap, sym, _∙_}
+use Rattle.machine.specs.Events.{number}
+use Rattle.solve_workspace.specs.Meets.{reason}
+use Rattle.solve_workspace.specs.declared.Why.{Why}
 use borrow.Author.Needs.{needs}
-use Rattle.render.proofs.page.solver_number.Statement.{statement}
-use Rattle.render.proofs.page.solver_number.Tie as tie
+use Rattle.solve_workspace.proofs.solver_number.Statement.{statement}
+use Rattle.solve_workspace.proofs.solver_number.Tie as tie
 
 enum-known-why : tie.Need-enum-known-why
 enum-known-why c = search needs
@@ -28,7 +31,7 @@ enum-told-6 : tie.Need-enum-told-6
 enum-told-6 c = search needs
 
 returns : tie.Need-returns
-returns c = domain-is _ (c .before .before .why .given .1) (c .domain-number .ensures)
+returns c = c .domain-number .ensures ∙ ap (λ (x : Why). number (reason x)) (sym (c .before .before .why .given .1))
 
 returns-2 : tie.Need-returns-2
 returns-2 c = search needs
