@@ -73,7 +73,7 @@ fn hex(text: &str) -> Vec<u8> {
 }
 
 /// Choice(Empty, Nest 1 over Nest 2^32 - 1 over Empty).
-fn wide_choice() -> Vec<u8> {
+fn nests_choice() -> Vec<u8> {
     let mut b = Build::new();
     let empty = b.node(kind::EMPTY, 0, 0);
     let inner = b.node(kind::NEST, u32::MAX, empty);
@@ -316,7 +316,7 @@ pub fn cases() -> Vec<Case> {
         add(name, b.file(), settings(1, 0, 0), page, none, want);
     }
 
-    // What has no place (103 to 107).
+    // What has no place (104 to 107).
     let wide = |kind: u8, order: &[usize]| {
         let mut b = Build::new();
         let texts = [b.wide("x", u32::MAX), b.text("y")];
@@ -327,7 +327,7 @@ pub fn cases() -> Vec<Case> {
         b.list(kind, &order.iter().map(|at| all[*at]).collect::<Vec<_>>());
         b.file()
     };
-    add("103: 25 although a page exists", wide_choice(), usual, page, none, Refused(25, 0, None));
+    add("107: 25 although a page exists", nests_choice(), usual, page, none, Refused(25, 0, None));
     add("104: two Nests first", wide(kind::SEQ, &[2, 0, 1]), usual, page, none, Refused(25, 0, Some(3)));
     add("104: two texts first", wide(kind::SEQ, &[0, 1, 2]), usual, page, none, Refused(11, 0, Some(4)));
     add("104: a Fill's space", wide(kind::FILL, &[0, 3]), usual, page, none, Refused(11, 0, Some(3)));
@@ -367,10 +367,10 @@ pub fn cases() -> Vec<Case> {
         b.file()
     };
     let dear = settings(80, u32::MAX, 0);
-    add("107: a charge has its place", charged(&[u32::MAX], false), usual, page, none, Refused(22, 0, None));
-    add("107: a charge has none", charged(&[u32::MAX, 1], false), usual, page, none, Refused(26, 0, None));
-    add("107: a gap has its place", charged(&[], true), dear, page, none, Refused(22, 0, None));
-    add("107: a gap has none", charged(&[1], true), dear, page, none, Refused(26, 0, None));
+    add("104: a charge has its place", charged(&[u32::MAX], false), usual, page, none, Refused(22, 0, None));
+    add("104: a charge has none", charged(&[u32::MAX, 1], false), usual, page, none, Refused(26, 0, None));
+    add("104: a gap has its place", charged(&[], true), dear, page, none, Refused(22, 0, None));
+    add("104: a gap has none", charged(&[1], true), dear, page, none, Refused(26, 0, None));
 
     // The texts (97 to 100).
     for (name, text) in [
