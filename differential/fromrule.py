@@ -4,7 +4,7 @@ differential/differential/src/sample.rs) by part 4, and by part 2 where the layo
 
     fromrule.py FILE ..        cases in the sample's form
     fromrule.py --page FILE .. inputs and outputs of the program `page`
-    fromrule.py HEX W N P      one file with width, newline cost, policy: page, spans, cost, counts at the sizes of `page`
+    fromrule.py HEX W N P R    one file with width, newline cost, policy, rule: page, spans, cost, counts at the sizes of `page`
     fromrule.py --rule ../docs/RULE.md [--page-program PATH] [--calls-program PATH]
                                all that the page itself works out, its annex and check numbers (rulepage.py). What `page` can be
                                asked of it is asked of the first program too, all calls with their sizes of the second (test_calls)
@@ -201,12 +201,13 @@ class Many(Exception):
 
 
 class Rule:
-    def __init__(self, file, w, newline, policy):
-        self.file, self.w, self.newline, self.policy = file, w, newline, policy
+    def __init__(self, file, w, newline, policy, rule):
+        self.file, self.w, self.newline, self.policy, self.rule = file, w, newline, policy, rule
         self.made = 0
 
-    def over(self, c):
-        return max(c - self.w, 0)
+    def charge(self, c):
+        over = max(c - self.w, 0)
+        return over if self.rule == 2 else over ** 2
 
     def lowered(self, i):
         return min(i, self.w - 1) if self.policy else i
@@ -254,7 +255,7 @@ class Rule:
                 burden += self.newline
             elif p[0] == 'fee':
                 burden += p[1]
-        return sum(self.over(c) ** 2 for c in lines), burden
+        return sum(self.charge(c) for c in lines), burden
 
     def page(self):
         best = min((p for p, _ in self.layouts(self.file.root, 0, 0)), key=self.worth)  # the first of the least
@@ -277,8 +278,8 @@ class Rule:
 # ---- part 4: the machine
 
 class Machine(Rule):
-    def __init__(self, file, w, newline, policy, sizes, work_limit, visit_limit):
-        super().__init__(file, w, newline, policy)
+    def __init__(self, file, w, newline, policy, rule, sizes, work_limit, visit_limit):
+        super().__init__(file, w, newline, policy, rule)
         self.sizes, self.work_limit, self.visit_limit = dict(zip(SIZES, sizes)), work_limit, visit_limit
         self.count = dict.fromkeys(COUNTS, 0)
         self.tasks, self.results, self.pending, self.memo, self.kept, self.plans, self.frontier = [], [], [], {}, [], [], []
@@ -336,10 +337,10 @@ class Machine(Rule):
 
     def text(self, c, w):
         refuse_if(c + w >= 2 ** 32, 11)
-        return self.over(c + w) ** 2 - self.over(c) ** 2, 0
+        return self.charge(c + w) - self.charge(c), 0
 
     def line(self, i):
-        self.present((self.over(i) ** 2, self.newline), i, ('line', i), True)
+        self.present((self.charge(i), self.newline), i, ('line', i), True)
 
     # 4.3
     def solve(self):
@@ -511,16 +512,16 @@ class Machine(Rule):
 
 def answer(data, settings, sizes, limits, start=0):
     """(page, spans, cost) or (number, needed), and the counts."""
-    w, newline, policy = settings
+    w, newline, policy, rule = settings
     counts = dict.fromkeys(COUNTS, 0)
     try:
-        refuse_if(w == 0 or policy > 1, 1)
+        refuse_if(w == 0 or policy > 1 or rule not in (1, 2), 1)
         file = File(data, start)
-        m = Machine(file, w, newline, policy, sizes, *limits)
+        m = Machine(file, w, newline, policy, rule, sizes, *limits)
         counts = m.count
         said = m.render()
         try:
-            ruled = Rule(file, w, newline, policy).page()
+            ruled = Rule(file, w, newline, policy, rule).page()
             assert ruled == said, ('part 2 differs from part 4', ruled, said)
             answer.by_rule += 1
         except Many:
@@ -539,10 +540,10 @@ def program(data):
         refuse_if(len(data) > 32768, 4)
         r = Reader(data)
         m = r.byte()
-        refuse_if(m > 7, 3)
+        refuse_if(m > 15, 3)
         w = r.field(bit(m, 0))
         newline = r.field(bit(m, 1))
-        said, counts = answer(data, (w, newline, m >> 2), *PAGE, start=r.at)
+        said, counts = answer(data, (w, newline, int(bit(m, 2)), 2 if bit(m, 3) else 1), *PAGE, start=r.at)
     except Refused as r:
         said = r.number, 0
     if len(said) == 2:
@@ -586,7 +587,7 @@ def main(arguments):
                     wrong += 1
                     print(given.hex(), program(given), wanted)
         return print(done, 'inputs,', wrong, 'different')
-    if len(arguments) == 4 and arguments[1].isdigit():
+    if len(arguments) == 5 and arguments[1].isdigit():
         return print('\n'.join(shown(*answer(bytes.fromhex(arguments[0]), [int(x) for x in arguments[1:]], *PAGE))))
     done, kinds, wrong = 0, {}, 0
     for name in arguments:

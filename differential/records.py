@@ -27,7 +27,7 @@ def sample():
 def calls():
     """With the number of span records that are lent."""
     for words, file, answer in sample():
-        spans = words[11]
+        spans = words[12]
         yield words + [spans], file, answer
         if spans > 0 and answer[0].startswith('page'):
             yield words + [spans - 1], file, ['refused 1 0', 'counts' + ' 0' * 10]
@@ -42,7 +42,7 @@ def run(tree, part):
     crate = tree + '/crates/test_records'
     with open(crate + '/stdin', 'wb') as stdin, open(crate + '/stdout', 'w') as stdout:
         for words, file, answer in part:
-            stdin.write(struct.pack('<16Q', *words, len(file)) + file)
+            stdin.write(struct.pack('<17Q', *words, len(file)) + file)
             stdout.write('\n'.join(answer) + '\n\n')
     done = subprocess.run(['rt', 'try', 'test_records'], cwd=tree, stdout=subprocess.PIPE, stderr=subprocess.STDOUT, text=True)
     if done.returncode != 0:

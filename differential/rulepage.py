@@ -14,7 +14,8 @@ from fromrule import COUNTS, PAGE, SIZES
 HEX = re.compile(r'`([0-9a-f]{2}(?: [0-9a-f]{2})*)`')
 SHOWN = [name for name in COUNTS if name != 'fit']
 LIMITS = ['work limit', 'visit limit']
-USUAL = 80, 1, 0  # the setting of a table that has none
+USUAL = 80, 1, 0, 1  # the setting of a table that has none; without a column or a word for it the rule is 1
+SETTING = ['W', 'newline cost', 'policy', 'rule']
 
 
 def row_of_bytes(text):
@@ -120,7 +121,7 @@ class Page:
                 self.different.append('the program differs on ' + given.hex())
 
     def call(self, data, setting, sizes, limits):
-        if (sizes, limits) == PAGE and setting[2] < 2:
+        if (sizes, limits) == PAGE and setting[2] < 2 and setting[3] in (1, 2):
             self.run(set_before(data, *setting))
         said, counts = fromrule.answer(data, setting, sizes, limits)
         given = ['file ' + (data.hex() or '-')] + [
@@ -146,7 +147,7 @@ class Page:
         """Pages or counts: a row has the file, the setting, and what comes of it."""
         for row in rows:
             cell = dict(zip(head, row))
-            setting = [number(cell[name]) for name in ('W', 'newline cost', 'policy')]
+            setting = [number(cell[name]) for name in SETTING[:3]] + [number(cell.get('rule', '1'))]
             said, counts = self.call(self.made_of(cell['file']), setting, *PAGE)
             where = '%s: %s at %s' % (section, cell['file'], setting)
             if 'work' in cell:
@@ -164,8 +165,9 @@ class Page:
             self.agree('refusals', '%s: %s' % (section, row), told, list(said[:2]) + [counts[name] for name in SHOWN])
 
     def steps(self, section, before, rows):
-        named = re.findall(r'The file of (\d\.\d+) at W (\d+), newline cost (\d+)', before)[-1]
-        machine = fromrule.Machine(fromrule.File(self.made_of(named[0])), int(named[1]), int(named[2]), 0, PAGE[0], *PAGE[1])
+        named = re.findall(r'The file of (\d\.\d+) at W (\d+), newline cost (\d+)(?:, rule (\d))?', before)[-1]
+        file = fromrule.File(self.made_of(named[0]))
+        machine = fromrule.Machine(file, int(named[1]), int(named[2]), 0, int(named[3] or 1), PAGE[0], *PAGE[1])
         machine.render()
         self.agree('tables of steps', section + ': ' + named[0], [row[:2] for row in rows], [step_row(*step) for step in machine.steps])
 
@@ -197,8 +199,8 @@ class Page:
         cut = block.index('output')
         given, written = [bytes.fromhex(' '.join(part)) for part in (block[1:cut], block[cut + 1:-1])]
         above = self.text[self.text.index('### %s ' % section):]
-        told = re.search(r'Page width ([\d,]+), newline cost ([\d,]+), policy (\d)', above)
-        setting = set_before(b'', *[number(value) for value in told.groups()])
+        told = re.search(r'Page width ([\d,]+), newline cost ([\d,]+), policy (\d)(?:, rule (\d))?', above)
+        setting = set_before(b'', *[number(value) for value in told.groups('1')])
         self.agree('settings', section, setting, given[:len(setting)])
         self.agree('entries of the annex', section, written, fromrule.program(given))
         self.agree('check numbers', section, block[-1], 'check ' + check_number(given + written))
@@ -207,7 +209,7 @@ class Page:
 
     def whole(self):
         for section, before, head, rows in self.tables:
-            if head[:4] == ['file', 'W', 'newline cost', 'policy']:
+            if head[:4] == ['file'] + SETTING[:3]:
                 self.results(section, head, rows)
             elif head[:2] == ['no.', 'file']:
                 self.refusals(section, head, rows)
@@ -235,19 +237,19 @@ def spans_in(text):
 
 def changed(text):
     """The usual call with what a cell says instead: `memo 0, work limit 3, W 1`."""
-    values = dict(zip(['W', 'newline cost', 'policy'] + SIZES + LIMITS, list(USUAL) + PAGE[0] + PAGE[1]))
+    values = dict(zip(SETTING + SIZES + LIMITS, list(USUAL) + PAGE[0] + PAGE[1]))
     for part in filter(None, text.split(', ')):
         name, value = part.rsplit(' ', 1)
         if name not in values:
             raise SystemExit('no size or limit: ' + part)
         values[name] = number(value)
     given = list(values.values())
-    return given[:3], given[3:12], given[12:]
+    return given[:4], given[4:13], given[13:]
 
 
-def set_before(data, width, newline, policy):
+def set_before(data, width, newline, policy, rule):
     fields = [(1, width), (2, newline)]
-    return bytes([sum(bit for bit, value in fields if value) + 4 * policy]) + b''.join(
+    return bytes([sum(bit for bit, value in fields if value) + 4 * policy + 8 * (rule == 2)]) + b''.join(
         value.to_bytes(4, 'little') for _, value in fields if value) + data
 
 

@@ -36,7 +36,7 @@ enum {
     GANNOZHI_NEEDED,         /* size that is needed: 13 to 21; else 0 */
     GANNOZHI_LENGTH,         /* bytes of the page, at the front of the output */
     GANNOZHI_SPAN_COUNT,     /* spans, at the front of the rows */
-    GANNOZHI_OVERFLOW_HIGH,  /* of the page's cost, two halves of 128 bits */
+    GANNOZHI_OVERFLOW_HIGH,  /* of the page's cost under the call's rule, two halves of 128 bits */
     GANNOZHI_OVERFLOW_LOW,
     GANNOZHI_BURDEN,
     GANNOZHI_WORK,           /* from here on counts, on refusals too */
@@ -85,10 +85,13 @@ static inline size_t gannozhi_memo_slots(uint32_t entries) {
 typedef uint64_t gannozhi_span[4];
 
 /* The page of a file, or why there is none; the answer's first word is returned too. On a refusal output and spans are unaltered, and past
- * the page's end they always are. */
+ * the page's end they always are.
+ *
+ * The rule says what a line past the width is charged: 1 the square of the columns past it, 2 those columns themselves. Anything else is
+ * refused by 1, as are a width of 0 and a policy above 1. */
 uint32_t gannozhi_render(
     const uint8_t *file, size_t file_length,
-    uint32_t width, uint32_t newline_cost, uint32_t policy,
+    uint32_t width, uint32_t newline_cost, uint32_t policy, uint32_t rule,
     const uint32_t sizes[GANNOZHI_SIZES], uint64_t work_limit, uint64_t visit_limit,
     uint32_t (*nodes)[8], size_t nodes_length,      /* GANNOZHI_NODES */
     uint32_t *edges, size_t edges_length,           /* GANNOZHI_EDGES */

@@ -11,7 +11,7 @@
 
 #include "gannozhi.h"
 
-static const char usage[] = "usage: page [WIDTH [NEWLINE_COST [POLICY]]] < FILE   (80 1 0 where they are not given)\n";
+static const char usage[] = "usage: page [WIDTH [NEWLINE_COST [POLICY [RULE]]]] < FILE   (80 1 0 1 where they are not given)\n";
 
 /* The sizes of the program `page`. */
 enum { STACK = 512, MEMO = 1024, KEPT = 1024, FRONTIER = 256, PLANS = 2048, VISIT = 512, DEPTH = 64, OUTPUT = 32768, SPANS = 512 };
@@ -45,20 +45,20 @@ static int number_of(const char *word, uint32_t *number) {
 }
 
 int main(int count, char **words) {
-    uint32_t setting[3] = {80, 1, 0}; /* width, newline cost, policy */
+    uint32_t setting[4] = {80, 1, 0, 1}; /* width, newline cost, policy, rule */
     for (int i = 1; i < count; i++) {
         if (strcmp(words[i], "--help") == 0) {
             fputs(usage, stdout);
             return 0;
         }
-        if (i > 3 || !number_of(words[i], &setting[i - 1])) {
+        if (i > 4 || !number_of(words[i], &setting[i - 1])) {
             fputs(usage, stderr);
             return 2;
         }
     }
     size_t length = fread(file, 1, sizeof file, stdin);
     uint32_t number = gannozhi_render(
-        file, length, setting[0], setting[1], setting[2], sizes, 1000000, 1000000, LENT(nodes), LENT(edges), LENT(choices),
+        file, length, setting[0], setting[1], setting[2], setting[3], sizes, 1000000, 1000000, LENT(nodes), LENT(edges), LENT(choices),
         LENT(texts), LENT(bytes), LENT(tasks), LENT(results), LENT(pending), LENT(index), LENT(entries), LENT(kept), LENT(frontier),
         LENT(plans), LENT(visit), LENT(depth), LENT(output), LENT(spans), answer);
     if (number != 0) {

@@ -7,7 +7,7 @@ use std::process::ExitCode;
 
 use gannozhi::{Limits, Printer, Settings, Sizes};
 
-const USAGE: &str = "usage: page [WIDTH [NEWLINE_COST [POLICY]]] < FILE   (80 1 0 where they are not given)";
+const USAGE: &str = "usage: page [WIDTH [NEWLINE_COST [POLICY [RULE]]]] < FILE   (80 1 0 1 where they are not given)";
 
 /// A word of decimal digits, below 2^32.
 fn number(word: &str) -> Option<u32> {
@@ -15,7 +15,7 @@ fn number(word: &str) -> Option<u32> {
 }
 
 fn main() -> ExitCode {
-    let mut setting = [80, 1, 0];
+    let mut setting = [80, 1, 0, 1];
     for (place, word) in std::env::args_os().skip(1).enumerate() {
         let word = word.to_string_lossy();
         if word == "--help" {
@@ -30,11 +30,11 @@ fn main() -> ExitCode {
             }
         }
     }
-    let [width, newline_cost, policy] = setting;
+    let [width, newline_cost, policy, rule] = setting;
     let mut file = Vec::new();
     std::io::stdin().read_to_end(&mut file).expect("standard input");
     let limits = Limits { work: 1_000_000, visits: 1_000_000 };
-    match Printer::new(Sizes::PAGE).render(&file, &Settings { width, newline_cost, policy }, &limits) {
+    match Printer::new(Sizes::PAGE).render(&file, &Settings { width, newline_cost, policy, rule }, &limits) {
         Ok(page) => {
             eprintln!("overflow {:032x}, burden {}, work {}", page.overflow, page.burden, page.counts.work);
             for span in page.spans() {

@@ -57,6 +57,7 @@ pub fn render_lent(
             settings.width,
             settings.newline_cost,
             settings.policy,
+            settings.rule,
             &sizes.list(),
             limits.work,
             limits.visits,

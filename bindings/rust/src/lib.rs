@@ -11,13 +11,17 @@ pub use lent::{
     Written,
 };
 
-/// The settings of a call. A width of 0 and a policy above 1 are refused by 1.
+/// The settings of a call. A width of 0, a policy above 1 and a rule other than 1 and 2 are refused by 1.
+///
+/// There is no `Default`: which rule a page is filed under follows from its archive year, so each caller names it.
 #[derive(Clone, Copy, Debug, Eq, PartialEq)]
 pub struct Settings {
     pub width: u32,
     pub newline_cost: u32,
     /// 1 lowers an indent to the width less 1 at most; 0 keeps it.
     pub policy: u32,
+    /// What a line past the width is charged: 1 the square of the columns past it, 2 those columns themselves. The overflow is in its unit.
+    pub rule: u32,
 }
 
 /// How many items of each kind a call may use, in the order of the refusals 13 to 21.

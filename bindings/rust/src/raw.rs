@@ -7,6 +7,7 @@ extern "C" {
         width: u32,
         newline_cost: u32,
         policy: u32,
+        rule: u32,
         sizes: *const [u32; 9],
         work_limit: u64,
         visit_limit: u64,

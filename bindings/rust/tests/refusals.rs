@@ -7,7 +7,7 @@ const WORDS: &str = "order short form limit surplus reference text space circle 
     stack memo kept frontier plans visit depth output spans visits   indent cost";
 
 const FILE: &[u8] = include_bytes!("../../../samples/annotated.prepared");
-const SETTINGS: Settings = Settings { width: 24, newline_cost: 1, policy: 0 };
+const SETTINGS: Settings = Settings { width: 24, newline_cost: 1, policy: 0, rule: 1 };
 const LIMITS: Limits = Limits { work: 1_000_000, visits: 1_000_000 };
 
 /// The bytes of the page, or the refusal.
@@ -35,7 +35,12 @@ fn words_of_the_c_header() {
 
 #[test]
 fn order() {
-    for settings in [Settings { width: 0, ..SETTINGS }, Settings { policy: 2, ..SETTINGS }] {
+    for settings in [
+        Settings { width: 0, ..SETTINGS },
+        Settings { policy: 2, ..SETTINGS },
+        Settings { rule: 0, ..SETTINGS },
+        Settings { rule: 3, ..SETTINGS },
+    ] {
         let refused = page(FILE, settings, Sizes::PAGE, LIMITS).unwrap_err();
         assert_eq!((refused.to_string().as_str(), refused.counts), ("refused 1 order", Counts::default()));
     }
@@ -68,7 +73,12 @@ fn of_the_file() {
         // a choice list of one
         (10, format!("15 02000000 01000000 01000000 1309 01000000 01000000 01000000 0000 01000000 {SP}")),
         // a Seq of texts of widths 2^32 - 1 and 1
-        (11, format!("07 03000000 02000000 02000000 0204 02000000 0101 01000000 0001 01000000 02000000 {SP} 01 ffffffff")),
+        (
+            11,
+            format!(
+                "07 03000000 02000000 02000000 0204 02000000 0101 01000000 0001 01000000 02000000 {SP} 01 ffffffff"
+            ),
+        ),
         // Nest 1 over Nest 2^32 - 1
         (25, format!("05 03000000 01000000 0307 01000000 01000000 0307 ffffffff 02000000 0000 {SP}")),
     ] {

@@ -43,7 +43,7 @@ fn sample(name: String) -> Sample {
 /// The setting in front of an input (docs/RULE.md, part 5), and the file behind it.
 fn setting(input: &[u8]) -> (Settings, &[u8]) {
     let (&map, mut rest) = input.split_first().expect("a map byte");
-    assert!(map < 8);
+    assert!(map < 16);
     let mut field = |bit| {
         if map & bit == 0 {
             return 0;
@@ -53,7 +53,8 @@ fn setting(input: &[u8]) -> (Settings, &[u8]) {
         u32::from_le_bytes(*word)
     };
     let (width, newline_cost) = (field(1), field(2));
-    (Settings { width, newline_cost, policy: u32::from(map >> 2) }, rest)
+    let (policy, rule) = (u32::from(map >> 2 & 1), 1 + u32::from(map >> 3));
+    (Settings { width, newline_cost, policy, rule }, rest)
 }
 
 /// What the program `page` writes.
@@ -72,26 +73,30 @@ fn written(answer: &Result<Page, Refusal>) -> Vec<u8> {
 fn input_is_setting_and_file() {
     let readme = fs::read_to_string(folder().join("README.md")).expect("README.md");
     for Sample { name, input, prepared, .. } in samples() {
-        let (Settings { width, newline_cost, policy }, file) = setting(&input);
+        let (Settings { width, newline_cost, policy, rule }, file) = setting(&input);
         assert!(file == prepared, "{name}");
-        assert!(readme.contains(&format!("| `{name}` | {width} {newline_cost} {policy} |")), "{name} in README.md");
+        let row = format!("| `{name}` | {width} {newline_cost} {policy} {rule} |");
+        assert!(readme.contains(&row), "{row} in README.md");
     }
 }
 
 #[test]
 fn page_and_spans() {
     let mut printer = Printer::new(Sizes::PAGE);
-    let (mut refused, mut within) = (0, 0);
+    let (mut refused, mut within, mut second) = (0, 0, 0);
     for Sample { name, input, prepared, page, spans } in samples() {
         let limits = Limits { work: 1_000_000, visits: 1_000_000 };
-        let answer = printer.render(&prepared, &setting(&input).0, &limits);
+        let settings = setting(&input).0;
+        let answer = printer.render(&prepared, &settings, &limits);
         assert!(written(&answer) == page, "{name}: {}", String::from_utf8_lossy(&written(&answer)));
         let list: Vec<_> = answer.iter().flat_map(Page::spans).collect();
         assert_eq!(list.iter().map(|span| format!("{span}\n")).collect::<String>(), spans, "{name}");
         refused += usize::from(answer.is_err());
+        second += usize::from(settings.rule == 2 && answer.is_ok_and(|page| page.overflow > 0));
         within += list.iter().filter(|span| span.parent.is_some()).count();
     }
     assert!(refused > 0 && within > 0, "a sample is refused, and one has a span within a span");
+    assert!(second > 0, "a sample's page is charged under rule 2");
 }
 
 #[test]

@@ -1,5 +1,5 @@
 -- Worked cases through the whole definition, from bytes to the answer: document 01's own example under the sizes of `page`, the same with too little work,
--- a file whose space text has another width, and files with texts that are not UTF-8. Its starred cases are in Starred.
+-- a text past the width under both cost rules, a file whose space text has another width, and files with texts that are not UTF-8. Its starred cases are in Starred.
 use mathlib.Core.Path.{_≡_, refl, sym, _∙_, subst}
 use mathlib.Core.Bool.{true, false, false≢true}
 use mathlib.Core.List.{List, [], _∷_}
@@ -13,12 +13,12 @@ use Rattle.file_checks.specs.Texts.{text-bytes, TextsOk}
 use Rattle.file_checks.specs.Judged.{Judged, text, space}
 use Rattle.prepare.specs.File.{wrong}
 use Rattle.machine.specs.Events.{Bounds, no-counts}
-use Rattle.machine.specs.Answer.{paged, refused}
-use Rattle.answer.specs.Answer.{Settings, Answers, wrong-file}
+use Rattle.machine.specs.Answer.{Answer, paged, refused}
+use Rattle.answer.specs.Answer.{Settings, Answers, out-of-order, wrong-file}
 use Rattle.answer.specs.Worked.{bytes-of, sound, texted, tried, page-bounds, counted, file-read, references-right, texts-right, worked}
 
 abbrev at-80 : Settings
-at-80 = record { width = 80; newline-cost = 0; policy = 0 }
+at-80 = record { width = 80; newline-cost = 0; policy = 0; rule = 1 }
 
 -- ---- the example: one Text, `ab`, at W 80
 
@@ -40,6 +40,34 @@ pub work-spent : Answers (Unit {0}) ab-file at-80 (page-bounds 1) (refused 12 0 
 unfolding bytes-of sound texted tried
 work-spent = worked ab-tables refl refl refl refl refl
 
+-- ---- one Text, `abc`, at W 1: rule 1 charges 4, rule 2 charges 2; another rule is 1, whatever the file
+
+abbrev abc-file : List ℕ
+abc-file = 69 ∷ 1 ∷ 0 ∷ 0 ∷ 0 ∷ 2 ∷ 0 ∷ 0 ∷ 0 ∷ 1 ∷ 0 ∷ 0 ∷ 0 ∷ 0 ∷ 1 ∷ 3 ∷ 3 ∷ 0 ∷ 0 ∷ 0 ∷ 3 ∷ 0 ∷ 0 ∷ 0 ∷ 97 ∷ 98 ∷ 99 ∷ 3 ∷ 1 ∷ 0 ∷ 0 ∷ 0 ∷ 1 ∷ 0 ∷ 0 ∷ 0 ∷ 32 ∷ []
+
+abbrev abc-tables : Tables
+abc-tables = tables ((1 ∷ 0 ∷ 0 ∷ 0 ∷ 0 ∷ 0 ∷ 0 ∷ 0 ∷ []) ∷ []) [] [] ((3 ∷ 3 ∷ 0 ∷ []) ∷ (1 ∷ 1 ∷ 3 ∷ []) ∷ []) (97 ∷ 98 ∷ 99 ∷ 32 ∷ []) 0 0 1
+
+abbrev at-1-under : ℕ → Settings
+at-1-under r = record { width = 1; newline-cost = 0; policy = 0; rule = r }
+
+abbrev abc-page : ℕ → Answer
+abc-page o = paged (record { bytes = 97 ∷ 98 ∷ 99 ∷ []; spans = []; cost = record { overflow = o; burden = 0 } }) (counted 2 0 1 1 0 1 1 1 1)
+
+pub abc-rule-1 : Answers (Unit {0}) abc-file (at-1-under 1) (page-bounds 1000000) (abc-page 4)
+unfolding bytes-of sound texted tried
+abc-rule-1 = worked abc-tables refl refl refl refl refl
+
+pub abc-rule-2 : Answers (Unit {0}) abc-file (at-1-under 2) (page-bounds 1000000) (abc-page 2)
+unfolding bytes-of sound texted tried
+abc-rule-2 = worked abc-tables refl refl refl refl refl
+
+pub rule-0 : (file : List ℕ) (b : Bounds) → Answers (Unit {0}) file (at-1-under 0) b (refused 1 0 no-counts)
+rule-0 file b = out-of-order (λ o. omega (arith, o .rule-known .0))
+
+pub rule-3 : (file : List ℕ) (b : Bounds) → Answers (Unit {0}) file (at-1-under 3) b (refused 1 0 no-counts)
+rule-3 file b = out-of-order (λ o. omega (arith, o .rule-known .1))
+
 -- ---- one Empty, and a space text of width 2: 8
 
 abbrev wide-file : List ℕ
@@ -52,7 +80,7 @@ pub wide-space : (b : Bounds) → Answers (Unit {0}) wide-file at-80 b (refused 
 unfolding bytes-of sound texted
 wide-space b =
     let r = file-read wide-tables wide-file refl refl in
-    wrong-file 8 (record { wide = omega arith; policy-known = omega arith; lent-enough = tt })
+    wrong-file 8 (record { wide = omega arith; policy-known = omega arith; rule-known = (omega arith, omega arith); lent-enough = tt })
     (wrong 8 (r .0) (λ e. omega arith) (subst (λ (t : Tables). Judged t 8) (sym (r .1)) (space (references-right wide-tables refl) (texts-right wide-tables refl) (λ s. let e = s .wide in omega arith))))
 
 -- ---- texts that are not UTF-8: 7
@@ -64,7 +92,7 @@ ill-text :
 ill-text t file i e s h w b =
     let r = file-read t file e s in
     let n : TextsOk (t .texts) (t .bytes) → ⊥ = λ z. false≢true (sym w ∙ utf8-well (text-bytes (t .texts) (t .bytes) i) .0 (z .each i h .well-formed)) in
-    wrong-file 7 (record { wide = omega arith; policy-known = omega arith; lent-enough = tt })
+    wrong-file 7 (record { wide = omega arith; policy-known = omega arith; rule-known = (omega arith, omega arith); lent-enough = tt })
     (wrong 7 (r .0) (λ z. omega arith) (subst (λ (x : Tables). Judged x 7) (sym (r .1)) (text (references-right t s) n)))
 
 -- one Empty, and a space text that is the byte 128: 7 comes before 8

@@ -3,7 +3,7 @@ use mathlib.Core.Path.{_≡_, refl, ap, subst}
 use mathlib.Core.List.{List}
 use Prim.Native.Nat.{ℕ}
 use native.Mathlib.Omega.{arith}
-use Rattle.layout.specs.Squares.{squares-lawful}
+use Rattle.layout.specs.Charging.{charging-lawful}
 use Rattle.file_encode.specs.Fields.{Bytes}
 use Rattle.machine.specs.Numbers.{Numbered, listed, machine-numbered}
 use Rattle.machine.specs.Events.{Bounds, Counts}
@@ -14,7 +14,7 @@ use Rattle.machine.specs.Larger.{Larger, larger-answer}
 use Rattle.machine_right.specs.Pruned.{Fair, fair-answer}
 use Rattle.machine_right.specs.Right.{RightPage, Right, answer-right}
 use Rattle.machine_right.specs.Right.{right-page as found-page, right-refusal as found-refusal}
-use Rattle.answer.specs.Answer.{Settings, rules-of, document-of, Answers, out-of-order, wrong-file, laid-out}
+use Rattle.answer.specs.Answer.{Settings, rules-of, document-of, lent-as, Answers, out-of-order, wrong-file, laid-out}
 use Rattle.answer.specs.Page.{RulesPage, Promised, right-page, right-refusal}
 use Rattle.answer.specs.Ready.{means-ready}
 use Rattle.answer.specs.Faults.{file-faults}
@@ -40,7 +40,7 @@ module _ {lent : Type 0} {file : List ℕ} {c : Settings} {b : Bounds} (z : Byte
   pub promised : {a : Answer} → Answers lent file c b a → Promised file c a
   promised (out-of-order n) = right-refusal {n = 1} (listed (omega arith) (omega arith))
   promised (wrong-file n o m) = let h = file-faults m in right-refusal {n = n} (listed (omega (arith, h .0)) (omega (arith, h .1)))
-  promised (laid-out o m) = promised-of file c (answer-right (rules-of c) (squares-lawful (c .width) (c .newline-cost) (c .policy)) (document-of file) (means-ready file z m) b)
+  promised (laid-out o m) = promised-of file c (answer-right (rules-of c) (charging-lawful (c .rule) (c .width) (c .newline-cost) (c .policy)) (document-of file) (means-ready file z m) b)
 
   pub page-right : {r : Rendered} {k : Counts} → Answers lent file c b (paged r k) → RulesPage file c r
   page-right {r} {k} a = go (promised a)
@@ -62,7 +62,7 @@ module _ {lent wider : Type 0} {file : List ℕ} {c : Settings} {b d : Bounds} (
   larger-page r k (wrong-file n o m) e = let z : _≡_ {A = ℕ} 0 1 = cc in absurd (omega arith)
   larger-page r k (laid-out o m) e =
       subst (λ (a : Answer). Answers wider file c d a) (larger-answer b d L (rules-of c) (document-of file) r k e)
-      (laid-out (record { wide = o .wide; policy-known = o .policy-known; lent-enough = w }) m)
+      (laid-out (lent-as w o) m)
 
   -- the answer is the same page, with the same counts, and no other
   pub same-page : {r : Rendered} {k : Counts} → Answers lent file c b (paged r k) → Answers wider file c d (paged r k)

@@ -69,7 +69,11 @@ module _ {lent : Type 0} (file : List ℕ) (c : Settings) (b : Bounds) where
   ordered? (yes l) =
       by-cases (decLt 0 (c .width))
       (λ w. by-cases (decLt (c .policy) 2)
-      (λ p. yes (record { wide = w; policy-known = omega arith; lent-enough = l }))
+      (λ p. by-cases (decLt 0 (c .rule))
+      (λ r. by-cases (decLt (c .rule) 3)
+      (λ s. yes (record { wide = w; policy-known = omega arith; rule-known = (r, omega arith); lent-enough = l }))
+      (λ s. no (λ o. s (omega (arith, o .rule-known .1)))))
+      (λ r. no (λ o. r (o .rule-known .0))))
       (λ p. no (λ o. p (omega (arith, o .policy-known)))))
       (λ w. no (λ o. w (o .wide)))
   ordered? (no l) = no (λ o. l (o .lent-enough))

@@ -82,9 +82,9 @@ pub data Row : Type 0 where
   call : List ℕ → Settings → Answer → Row
   presents : List Scratch → List Scratch → Counts → Row
 
--- page width, newline cost, policy
+-- page width, newline cost, policy; document 01 has rule 1
 abbrev at : ℕ → ℕ → ℕ → Settings
-at w n p = record { width = w; newline-cost = n; policy = p }
+at w n p = record { width = w; newline-cost = n; policy = p; rule = 1 }
 
 -- a page without spans: its bytes, overflow, burden
 abbrev shows : List ℕ → ℕ → ℕ → Counts → Answer

@@ -9,6 +9,7 @@ use lib.Dec.{ltb, leb, eqb}
 use lib.ListN.{length, getD}
 use borrow.Author.Tests.{ltb-true, leb-true, eqb-true, eqb-false, eq-eqb, not-true}
 use Rattle.cost.specs.Cost.{cheap, cheaper}
+use Rattle.cost.specs.Charge.{charged}
 use Rattle.memo.specs.Entries.{same}
 use Rattle.layout.specs.Frontier.{covers}
 use Rattle.layout.specs.Frontier.{present as presented}
@@ -47,7 +48,7 @@ unfolding mapOf headerMap encHeader nodeMap encNode textMap encText encTexts eac
 bytes-of t = encode t
 
 unfoldable pub tried : Tables → Settings → Bounds → Answer
-unfolding cheap cheaper same covers presented plan-at push-exact-task push-exact-result push-pending checked-add present present-all additional-plans committed finish-builder singleton present-range union-ranges present-wrapped wrap-range memo-insert complete-node push-joined build-pending checked-text push-gaps fill-boundary push-child complete-singleton begin-empty begin-text begin-newline begin-sequence begin-union begin-group begin-nest skip-choices push-alternatives begin-choice begin-kind begin-known begin-node complete-alias complete-union present-ranges complete-choice-set complete-wrapped push-right gap-if-fill next-child continue-sequence next-left complete-sequence-right execute-task step rights continued work-off work-off-all evaluated rest before least-key solve-tasks take-best solve append-each visit-plan materialize render answer node-of-row choice-of-row
+unfolding cheap cheaper charged same covers presented plan-at push-exact-task push-exact-result push-pending checked-add present present-all additional-plans committed finish-builder singleton present-range union-ranges present-wrapped wrap-range memo-insert complete-node push-joined build-pending checked-text push-gaps fill-boundary push-child complete-singleton begin-empty begin-text begin-newline begin-sequence begin-union begin-group begin-nest skip-choices push-alternatives begin-choice begin-kind begin-known begin-node complete-alias complete-union present-ranges complete-choice-set complete-wrapped push-right gap-if-fill next-child continue-sequence next-left complete-sequence-right execute-task step rights continued work-off work-off-all evaluated rest before least-key solve-tasks take-best solve append-each visit-plan materialize render answer node-of-row choice-of-row
 tried t c b = answer (rules-of c) (prepared t) b
 
 -- the sizes of `page`, and a limit of work
@@ -168,7 +169,7 @@ texts-fine t = both (texted t) (spaced t)
 
 -- nor 1
 abbrev pub ordered : Settings → Bool
-ordered c = both (leb 1 (c .width)) (leb (c .policy) 1)
+ordered c = both (leb 1 (c .width)) (both (leb (c .policy) 1) (both (leb 1 (c .rule)) (leb (c .rule) 2)))
 
 -- what a sound row has
 record RowSound (t : Tables) (i : ℕ) (row : List ℕ) : Type 0 where
@@ -326,7 +327,9 @@ worked t {file} {c} {b} e s p o q =
     let z = tables-are t s in
     let x = both-true (texted t) (spaced t) p in
     let j = accepted (record { references = references t z; texts = texts-right t (x .0); space = space-is t (x .1); no-circle = no-circle t z; lists = lists t z }) in
-    let w = both-true (leb 1 (c .width)) (leb (c .policy) 1) o in
+    let w = both-true (leb 1 (c .width)) (both (leb (c .policy) 1) (both (leb 1 (c .rule)) (leb (c .rule) 2))) o in
+    let u = both-true (leb (c .policy) 1) (both (leb 1 (c .rule)) (leb (c .rule) 2)) (w .1) in
+    let v = both-true (leb 1 (c .rule)) (leb (c .rule) 2) (u .1) in
     subst (λ (x : Answer). Answers (Unit {0}) file c b x) q
     (subst (λ (x : Tables). Answers (Unit {0}) file c b (answer (rules-of c) (prepared x) b)) (r .1)
-    (laid-out (record { wide = leb-true _ _ (w .0); policy-known = leb-true _ _ (w .1); lent-enough = tt }) (right (r .0) (subst (λ (x : Tables). Judged x 0) (sym (r .1)) j))))
+    (laid-out (record { wide = leb-true _ _ (w .0); policy-known = leb-true _ _ (u .0); rule-known = (leb-true _ _ (v .0), leb-true _ _ (v .1)); lent-enough = tt }) (right (r .0) (subst (λ (x : Tables). Judged x 0) (sym (r .1)) j))))

@@ -3,12 +3,13 @@ use mathlib.Core.Path.{_≡_, refl, sym, ap, ap₂}
 use mathlib.Core.Bool.{Bool, true, false}
 use mathlib.Core.Option.{none, some}
 use Prim.Native.Nat.{ℕ, _+_, _-_, _*_, _^_, _≤_, _<_}
-use native.Mathlib.Nat.{mul-le-mul, le-of-lt, lt-irrefl, not-le-of-lt, lt-of-lt-of-le}
+use native.Mathlib.Nat.{le-of-lt, lt-irrefl, not-le-of-lt, lt-of-lt-of-le}
 use native.Mathlib.Omega.{arith}
 use lib.Dec.{leb, ltb}
-use borrow.Author.Tests.{le-ltb, lt-ltb, leb-true, ltb-true, ltb-false, le-leb}
+use borrow.Author.Tests.{le-ltb, lt-ltb, leb-true, ltb-true, ltb-false, le-leb, eq-eqb, ne-eqb}
 use Rattle.cost.specs.Cost.{Cost, cheap}
-use Rattle.cost.specs.Charge.{squared, text-cost, newline-cost}
+use Rattle.cost.specs.Charge.{charged, text-cost, newline-cost}
+use Rattle.cost.specs.Rising.{charged-small}
 use Rattle.cost.specs.Logic.{false-if, same-test}
 use Rattle.cost.specs.Order.{Cheap, cheap-is, is-cheap}
 use Rattle.cost.specs.Value.{value, pick-option, halved-within, cost, past, within, text-outcome, newline-outcome}
@@ -59,25 +60,27 @@ pub within-both : (c d : Cost) → d .overflow ≡ c .overflow → d .burden ≡
 unfolding within
 within-both c d e f h k = rw (lt-ltb _ _ h, lt-ltb _ _ k) (ap₂ (λ (x y : ℕ). cost (record { overflow = x; burden = y })) e f)
 
-pub square-le : (m n : ℕ) → m ≤ n → m * m ≤ n * n
-square-le m n h = mul-le-mul h h
+-- the charge of an excess under rule 2, and under another
+pub by-excess : (r w c n : ℕ) → r ≡ 2 → n ≡ c - w → n ≡ charged r w c
+unfolding charged
+by-excess r w c n e f = rw (eq-eqb r 2 e) f
 
--- a square of a number below 2^32 has a place in 64 bits
-pub square-fits : (n : ℕ) → n < 2 ^ 32 → n * n < 2 ^ 64
-square-fits n h = omega (arith, square-le n 4294967295 (omega arith))
+pub by-square : (r w c n : ℕ) → (r ≡ 2 → ⊥) → n ≡ c - w → n * n ≡ charged r w c
+unfolding charged
+by-square r w c n e f = rw (ne-eqb r 2 e, f)
 
-pub text-past : (w column width : ℕ) → 2 ^ 32 ≤ column + width → past Column ≡ text-outcome w column width
+pub text-past : (r w column width : ℕ) → 2 ^ 32 ≤ column + width → past Column ≡ text-outcome r w column width
 unfolding text-outcome
-text-past w column width h = rw (le-ltb _ _ h)
+text-past r w column width h = rw (le-ltb _ _ h)
 
-pub text-is : (w column width : ℕ) (d : Cost) → column + width < 2 ^ 32 → d ≡ text-cost (squared w) column width → cost d ≡ text-outcome w column width
+pub text-is : (r w column width : ℕ) (d : Cost) → column + width < 2 ^ 32 → d ≡ text-cost (charged r w) column width → cost d ≡ text-outcome r w column width
 unfolding text-outcome
-text-is w column width d h e = rw (lt-ltb _ _ h, e)
+text-is r w column width d h e = rw (lt-ltb _ _ h, e)
 
 -- a newline's cost has its place
-pub newline-fits : (w newline indent : ℕ) → newline < 2 ^ 32 → indent < 2 ^ 32 → cost (newline-cost (squared w) newline indent) ≡ newline-outcome w newline indent
+pub newline-fits : (r w newline indent : ℕ) → newline < 2 ^ 32 → indent < 2 ^ 32 → cost (newline-cost (charged r w) newline indent) ≡ newline-outcome r w newline indent
 unfolding newline-outcome
-newline-fits w newline indent h k = within-both _ _ refl refl (lt-of-lt-of-le (square-fits (indent - w) (omega arith)) (leb-true (2 ^ 64) (2 ^ 128) refl)) (omega arith)
+newline-fits r w newline indent h k = within-both _ _ refl refl (lt-of-lt-of-le (charged-small r w indent k) (leb-true (2 ^ 64) (2 ^ 128) refl)) (omega arith)
 
 pub at-most : (a b : Cost) → Cheap a b → true ≡ cheap a b
 at-most a b h = sym (is-cheap a b h)

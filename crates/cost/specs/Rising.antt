@@ -1,9 +1,11 @@
 -- Any charge that is 0 up to the width and rises from there by steps that never shrink: smaller columns are never dearer.
 use mathlib.Core.Path.{_≡_, ap}
-use Prim.Native.Nat.{ℕ, zero, suc, _+_, _-_, _*_, _≤_}
+use mathlib.Core.Bool.{Bool, true, false, cond}
+use Prim.Native.Nat.{ℕ, zero, suc, _+_, _-_, _*_, _^_, _≤_, _<_}
 use native.Mathlib.Nat.{add-suc, add-zero, mul-le-mul, mul-add, add-mul, mul-comm}
 use native.Mathlib.Omega.{arith}
-use Rattle.cost.specs.Charge.{over, squared}
+use lib.Dec.{eqb}
+use Rattle.cost.specs.Charge.{over, squared, charged}
 
 pub record Rising (width : ℕ) (charge : ℕ → ℕ) : Type 0 where
   pub free : (c : ℕ) → c ≤ width → charge c ≡ 0
@@ -53,6 +55,29 @@ squared-rising w = record {
   more = λ c. square-steeper (c - w) (suc c - w) (suc (suc c) - w) (omega arith) (omega arith);
 }
 
--- the plain excess rises so too
+-- the excess itself rises so too
 pub over-rising : (w : ℕ) → Rising w (over w)
 over-rising w = record { free = λ c h. omega arith; up = λ c. omega arith; more = λ c. omega arith }
+
+-- and so does what either rule charges
+either-rising : (w : ℕ) (t : Bool) → Rising w (λ c. cond t (over w c) (squared w c))
+either-rising w true = over-rising w
+either-rising w false = squared-rising w
+
+pub charged-rising : (r w : ℕ) → Rising w (charged r w)
+unfolding charged
+charged-rising r w = either-rising w (eqb r 2)
+
+-- a square of a number below 2^32 has a place in 64 bits, and so has what a column is charged
+pub square-small : (n : ℕ) → n < 2 ^ 32 → n * n < 2 ^ 64
+square-small n h =
+    let m : n ≤ 4294967295 = omega arith in
+    let k : n * n ≤ 4294967295 * 4294967295 = mul-le-mul m m in omega (arith, k)
+
+either-small : (t : Bool) (n : ℕ) → n < 2 ^ 32 → cond t n (n * n) < 2 ^ 64
+either-small true n h = omega arith
+either-small false n h = square-small n h
+
+pub charged-small : (r w c : ℕ) → c < 2 ^ 32 → charged r w c < 2 ^ 64
+unfolding charged
+charged-small r w c h = either-small (eqb r 2) (c - w) (omega arith)

@@ -4,7 +4,7 @@ use mathlib.Core.Option.{Option, none, some}
 use Prim.Native.Nat.{ℕ, _+_, _*_, _^_}
 use lib.Dec.{ltb}
 use Rattle.cost.specs.Cost.{Cost}
-use Rattle.cost.specs.Charge.{squared, text-cost, newline-cost}
+use Rattle.cost.specs.Charge.{charged, text-cost, newline-cost}
 use Rattle.cost.specs.declared.Reason.{Reason}
 use Rattle.cost.specs.declared.Reason.the-variants.{Column, Indent, Overflow, Burden}
 use Rattle.cost.specs.declared.ConsumerCost.{ConsumerCost}
@@ -45,13 +45,13 @@ if-so false a b = b
 unfoldable pub within : Cost → Outcome
 within c = if-so (ltb (c .overflow) (2 ^ 128)) (if-so (ltb (c .burden) (2 ^ 64)) (cost c) (past Burden)) (past Overflow)
 
--- the text's cost at page width w, where its last column is below 2^32
-unfoldable pub text-outcome : ℕ → ℕ → ℕ → Outcome
-text-outcome w column width = if-so (ltb (column + width) (2 ^ 32)) (cost (text-cost (squared w) column width)) (past Column)
+-- the text's cost under rule r at page width w, where its last column is below 2^32
+unfoldable pub text-outcome : ℕ → ℕ → ℕ → ℕ → Outcome
+text-outcome r w column width = if-so (ltb (column + width) (2 ^ 32)) (cost (text-cost (charged r w) column width)) (past Column)
 
--- a newline's cost at page width w, where it is within its widths
-unfoldable pub newline-outcome : ℕ → ℕ → ℕ → Outcome
-newline-outcome w newline indent = within (newline-cost (squared w) newline indent)
+-- a newline's cost under rule r at page width w, where it is within its widths
+unfoldable pub newline-outcome : ℕ → ℕ → ℕ → ℕ → Outcome
+newline-outcome r w newline indent = within (newline-cost (charged r w) newline indent)
 
 -- an answer's case and value
 abbrev pub outcome : Costed → Outcome

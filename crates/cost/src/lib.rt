@@ -2,7 +2,7 @@
 ghost use mathlib.Core.Path.{_≡_};
 ghost use Prim.Native.Nat.{_+_, _-_, _*_, _^_, _<_};
 ghost use Rattle.cost.specs.Cost.{add, cheap, cheaper};
-ghost use Rattle.cost.specs.Charge.{over, squared, newline-cost, penalty-cost};
+ghost use Rattle.cost.specs.Charge.{over, charged, newline-cost, penalty-cost};
 ghost use Rattle.cost.specs.Value.{halves, value, halved, halved-within, cost, within, text-outcome, newline-outcome, outcome, domain-number};
 
 // Overflow below 2^128 in two halves, burden below 2^64.
@@ -42,6 +42,7 @@ pub enum Costed {
 pub struct PreparedConsumerCostModel {
     pub width: u32,
     pub newline_cost: u32,
+    pub rule: u32,
 }
 
 impl PreparedConsumerCostModel {
@@ -54,11 +55,14 @@ impl PreparedConsumerCostModel {
         (column - self.width) as u64
     }
 
-    // What a line of so many columns is charged.
+    // What a line of so many columns is charged: under rule 2 its excess, else the square of it.
     pub fn charge(self, columns: u32) -> u64
-        ensures { λ r. ⌜ r ≡ squared (self .width) columns ⌝ }
+        ensures { λ r. ⌜ r ≡ charged (self .rule) (self .width) columns ⌝ }
     {
         let excess = self.over(columns);
+        if self.rule == 2 {
+            return excess;
+        }
         excess * excess
     }
 }
@@ -97,7 +101,7 @@ impl ConsumerCost {
 
     // Text of a width that starts at a column.
     pub fn text(model: PreparedConsumerCostModel, column: u32, width: u32) -> Costed
-        ensures { λ r. ⌜ outcome r ≡ text-outcome (model .width) column width ⌝ }
+        ensures { λ r. ⌜ outcome r ≡ text-outcome (model .rule) (model .width) column width ⌝ }
     {
         if 0xffff_ffff - column < width {
             return Costed::Failed(Reason::Column);
@@ -111,10 +115,10 @@ impl ConsumerCost {
         })
     }
 
-    // A newline to an indent. It never fails: the square of a column and a newline cost have their places.
+    // A newline to an indent. It never fails: what a column is charged and a newline cost have their places.
     pub fn newline(model: PreparedConsumerCostModel, indent: u32) -> Costed
-        ensures says { λ r. ⌜ outcome r ≡ newline-outcome (model .width) (model .«newline_cost») indent ⌝ }
-        ensures fits { λ r. ⌜ outcome r ≡ cost (newline-cost (squared (model .width)) (model .«newline_cost») indent) ⌝ }
+        ensures says { λ r. ⌜ outcome r ≡ newline-outcome (model .rule) (model .width) (model .«newline_cost») indent ⌝ }
+        ensures fits { λ r. ⌜ outcome r ≡ cost (newline-cost (charged (model .rule) (model .width)) (model .«newline_cost») indent) ⌝ }
     {
         let charge = model.charge(indent);
         Costed::Cost(ConsumerCost {

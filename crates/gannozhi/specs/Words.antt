@@ -41,8 +41,8 @@ abbrev pub words : Rendered → List ℕ
 words (Page c n m k) = 0 ∷ 0 ∷ n ∷ m ∷ c .«overflow_high» ∷ c .«overflow_low» ∷ c .burden ∷ count-words k
 words (Refused n needed k) = n ∷ needed ∷ 0 ∷ 0 ∷ 0 ∷ 0 ∷ 0 ∷ count-words k
 
-abbrev pub options : ℕ → ℕ → ℕ → RenderOptions
-options width newline-cost policy = record { width = width; «newline_cost» = newline-cost; policy = policy }
+abbrev pub options : ℕ → ℕ → ℕ → ℕ → RenderOptions
+options width newline-cost policy rule = record { width = width; «newline_cost» = newline-cost; policy = policy; rule = rule }
 
 -- nine sizes in the order of 13 to 21, and the two limits
 abbrev pub bounds : List ℕ → ℕ → ℕ → Bounds

@@ -114,6 +114,7 @@ pub extern "C" fn gannozhi_render(
     width: u32,
     newline_cost: u32,
     policy: u32,
+    rule: u32,
     sizes: &[u32; 9],
     work_limit: u64,
     visit_limit: u64,
@@ -136,12 +137,13 @@ pub extern "C" fn gannozhi_render(
     spans: &mut [[u64; 4]],
     answer: &mut [u64; 17],
 ) -> u32
-    ensures { λ r. ⌜ Answered (now (file .entry)) (options width «newline_cost» policy) (bounds (now (sizes .entry)) «work_limit» «visit_limit») (lengths (now (nodes .entry)) (now (edges .entry)) (now (choices .entry)) (now (texts .entry)) (now (bytes .entry)) (now (tasks .entry)) (now (results .entry)) (now (pending .entry)) (now (index .entry)) (now (entries .entry)) (now (kept .entry)) (now (frontier .entry)) (now (plans .entry)) (now (visit .entry)) (now (depth .entry)) (now (output .entry)) (now (spans .entry))) (now (output .entry)) (now (output .exit)) (now (spans .entry)) (now (spans .exit)) (now (answer .exit)) r ⌝ }
+    ensures { λ r. ⌜ Answered (now (file .entry)) (options width «newline_cost» policy rule) (bounds (now (sizes .entry)) «work_limit» «visit_limit») (lengths (now (nodes .entry)) (now (edges .entry)) (now (choices .entry)) (now (texts .entry)) (now (bytes .entry)) (now (tasks .entry)) (now (results .entry)) (now (pending .entry)) (now (index .entry)) (now (entries .entry)) (now (kept .entry)) (now (frontier .entry)) (now (plans .entry)) (now (visit .entry)) (now (depth .entry)) (now (output .entry)) (now (spans .entry))) (now (output .entry)) (now (output .exit)) (now (spans .entry)) (now (spans .exit)) (now (answer .exit)) r ⌝ }
 {
     let o = RenderOptions {
         width: width,
         newline_cost: newline_cost,
         policy: policy,
+        rule: rule,
     };
     let b = bounds_of(*sizes, work_limit, visit_limit);
     let r = render_core(

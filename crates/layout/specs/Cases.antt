@@ -4,8 +4,9 @@ use mathlib.Core.Option.{Option, none, some, Option·map}
 use mathlib.Core.List.{List, [], _∷_, map}
 use Prim.Native.Nat.{ℕ, zero, suc}
 use Rattle.cost.specs.Cost.{cheap, cheaper}
+use Rattle.cost.specs.Charge.{charged}
 use Rattle.layout.specs.Document.{Word}
-use Rattle.layout.specs.Rules.{Rules, squares}
+use Rattle.layout.specs.Rules.{Rules, charging}
 use Rattle.layout.specs.Layout.{Plan, blank, page, overflow-of, burden-of}
 use Rattle.layout.specs.Spans.{Span, spans}
 use Rattle.layout.specs.Choice.{layouts, chosen}
@@ -29,23 +30,27 @@ plain v = (v, none)
 abbrev with-flat : ℕ → Node → Row
 with-flat f v = (v, some f)
 
--- texts: 0 the space, 1 `a`, 2 `b`, 3 `c`, 4 `ab`, 5 `cd`, 6 `abc`
+-- texts: 0 the space, 1 `a`, 2 `b`, 3 `c`, 4 `ab`, 5 `cd`, 6 `abc`, 7 `abcd`
 abbrev word : ℕ → List ℕ → Word
 word w b = record { width = w; bytes = b }
 
 abbrev words : List Word
-words = word 1 (32 ∷ []) ∷ word 1 (97 ∷ []) ∷ word 1 (98 ∷ []) ∷ word 1 (99 ∷ []) ∷ word 2 (97 ∷ 98 ∷ []) ∷ word 2 (99 ∷ 100 ∷ []) ∷ word 3 (97 ∷ 98 ∷ 99 ∷ []) ∷ []
+words = word 1 (32 ∷ []) ∷ word 1 (97 ∷ []) ∷ word 1 (98 ∷ []) ∷ word 1 (99 ∷ []) ∷ word 2 (97 ∷ 98 ∷ []) ∷ word 2 (99 ∷ 100 ∷ []) ∷ word 3 (97 ∷ 98 ∷ 99 ∷ []) ∷ word 4 (97 ∷ 98 ∷ 99 ∷ 100 ∷ []) ∷ []
 
 abbrev table : List Row → Table
 table l = record { node = λ n. nth (plain Empty) l n .0; flat = λ n. nth (plain Empty) l n .1; texts = nth (word 0 []) words; space = word 1 (32 ∷ []) }
 
--- page width, newline cost, policy, and nodes: 0 is the root
+-- cost rule, page width, newline cost, policy, and nodes: 0 is the root
 pub record Case : Type 0 where
   pub rules : Rules
   pub rows : List Row
 
+abbrev under : ℕ → ℕ → ℕ → ℕ → List Row → Case
+under r w n p l = record { rules = charging r w n p; rows = l }
+
+-- rule 1
 abbrev at : ℕ → ℕ → ℕ → List Row → Case
-at w n p l = record { rules = squares w n p; rows = l }
+at = under 1
 
 -- the answer's overflow, burden and page
 abbrev Shown : Type 0
@@ -89,9 +94,16 @@ either = plain (Choice 1 2) ∷ plain (Text 6) ∷ plain (Text 3) ∷ []
 abbrev fined : List Row
 fined = plain (Choice 1 2) ∷ plain (Penalty 5 3) ∷ plain (Text 3) ∷ plain (Text 6) ∷ []
 
+-- `abcd`, or `abc` on two lines
+abbrev one-or-two : List Row
+one-or-two = plain (Choice 1 2) ∷ plain (Text 7) ∷ plain (Seq (3 ∷ 4 ∷ 3 ∷ [])) ∷ plain (Text 6) ∷ plain HardLine ∷ []
+
 -- one table: the case, and its answer
 abbrev cases : List (Case × Shown)
 cases = (at 1 1 0 (one-text 6), (4, 0, 97 ∷ 98 ∷ 99 ∷ []))
+    ∷ (under 2 1 1 0 (one-text 6), (2, 0, 97 ∷ 98 ∷ 99 ∷ []))
+    ∷ (at 1 0 0 one-or-two, (8, 0, 97 ∷ 98 ∷ 99 ∷ 10 ∷ 97 ∷ 98 ∷ 99 ∷ []))
+    ∷ (under 2 1 0 0 one-or-two, (3, 0, 97 ∷ 98 ∷ 99 ∷ 100 ∷ []))
     ∷ (at 5 1 0 group-broken, (0, 1, 97 ∷ 98 ∷ 10 ∷ 99 ∷ 100 ∷ []))
     ∷ (at 3 0 0 fill-three, (0, 0, 97 ∷ 32 ∷ 98 ∷ 10 ∷ 99 ∷ []))
     ∷ (at 80 1 1 (twice 4294967295 Empty), (0, 0, []))
@@ -107,11 +119,11 @@ cases = (at 1 1 0 (one-text 6), (4, 0, 97 ∷ 98 ∷ 99 ∷ []))
     ∷ []
 
 all-cases : map (λ k. answer (k .0)) cases ≡ map (λ k. some (k .1)) cases
-unfolding cheap cheaper layouts
+unfolding cheap cheaper charged layouts
 all-cases = refl
 
 -- the layouts of a Fill in choice order: `a b c`, `a b/c`, `a/b c`, `a/b/c`
-fill-layouts : map page (layouts (squares 3 0 0) (unfolded (table fill-three) 2 0) 0 0)
+fill-layouts : map page (layouts (charging 1 3 0 0) (unfolded (table fill-three) 2 0) 0 0)
     ≡ (97 ∷ 32 ∷ 98 ∷ 32 ∷ 99 ∷ []) ∷ (97 ∷ 32 ∷ 98 ∷ 10 ∷ 99 ∷ []) ∷ (97 ∷ 10 ∷ 98 ∷ 32 ∷ 99 ∷ []) ∷ (97 ∷ 10 ∷ 98 ∷ 10 ∷ 99 ∷ []) ∷ []
 unfolding layouts
 fill-layouts = refl
@@ -124,7 +136,7 @@ abbrev span : ℕ → ℕ → ℕ → Option ℕ → Span
 span a s e p = record { annotation = a; start = s; end = e; parent = p }
 
 annotated-spans : Option·map spans (plan (at 80 1 0 annotated)) ≡ some (span 7 0 4 none ∷ span 9 0 1 (some 0) ∷ span 8 1 3 (some 0) ∷ span 9 3 4 (some 0) ∷ [])
-unfolding cheap cheaper layouts
+unfolding cheap cheaper charged layouts
 annotated-spans = refl
 
 -- candidates by overflow, burden and column

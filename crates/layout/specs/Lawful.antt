@@ -1,4 +1,4 @@
--- What is asked of rules: everything here is proved of all lawful rules, of which document 01's are one instance (Squares).
+-- What is asked of rules: everything here is proved of all lawful rules, of which those of any settings are instances (Charging).
 use Prim.Native.Nat.{ℕ, _≤_}
 use Rattle.cost.specs.Rising.{Rising}
 use Rattle.layout.specs.Rules.{Rules}

@@ -14,7 +14,7 @@ pub mod Running
 pub mod Frontier
 pub mod Pruning
 -- theorems
-pub mod Squares
+pub mod Charging
 pub mod Sieve
 pub mod Through
 pub mod Listed

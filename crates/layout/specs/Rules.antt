@@ -1,6 +1,6 @@
--- The settings of document 01 as rules of layout and cost.
+-- The settings of document 01, with the rule of document 02, change 5, as rules of layout and cost.
 use Prim.Native.Nat.{ℕ, zero, suc, _-_, min}
-use Rattle.cost.specs.Charge.{squared}
+use Rattle.cost.specs.Charge.{charged}
 
 pub record Rules : Type 0 where
   pub charge : ℕ → ℕ  -- of a line of so many columns
@@ -12,6 +12,6 @@ abbrev pub policy : ℕ → ℕ → ℕ → ℕ
 policy zero w i = i
 policy (suc p) w i = min i (w - 1)
 
--- document 01's rules at a page width, a newline cost and a policy
-abbrev pub squares : ℕ → ℕ → ℕ → Rules
-squares w n p = record { charge = squared w; newline-cost = n; lower = policy p w }
+-- under a cost rule, at a page width, a newline cost and a policy
+abbrev pub charging : ℕ → ℕ → ℕ → ℕ → Rules
+charging r w n p = record { charge = charged r w; newline-cost = n; lower = policy p w }

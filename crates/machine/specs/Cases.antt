@@ -8,9 +8,10 @@ use Prim.Native.Nat.{ℕ, zero, suc, _+_}
 use lib.Dec.{eqb}
 use lib.ListN.{getD, length}
 use Rattle.cost.specs.Cost.{cheap, cheaper}
+use Rattle.cost.specs.Charge.{charged}
 use Rattle.memo.specs.Entries.{same}
 use Rattle.layout.specs.Document.{Word}
-use Rattle.layout.specs.Rules.{squares}
+use Rattle.layout.specs.Rules.{charging}
 use Rattle.layout.specs.Spans.{Span}
 use Rattle.layout.specs.Frontier.{covers}
 use Rattle.layout.specs.Frontier.{present as presented}
@@ -98,10 +99,15 @@ abbrev said : Answer → List (List ℕ)
 said (paged p k) = page (p .bytes) (p .cost .overflow) (p .cost .burden) (counts-of k) (map span-of (p .spans))
 said (refused n m k) = refusal n m (counts-of k)
 
--- at a width, a newline cost and a policy; the line names all that a case computes with
+-- under a cost rule, at a width, a newline cost and a policy; the line names all that a case computes with
+under : ℕ → ℕ → ℕ → ℕ → Prepared → Bounds → List (List ℕ)
+unfolding cheap cheaper charged same covers presented plan-at push-exact-task push-exact-result push-pending checked-add present present-all additional-plans committed finish-builder singleton present-range union-ranges present-wrapped wrap-range memo-insert complete-node push-joined build-pending checked-text push-gaps fill-boundary push-child complete-singleton begin-empty begin-text begin-newline begin-sequence begin-union begin-group begin-nest skip-choices push-alternatives begin-choice begin-kind begin-known begin-node complete-alias complete-union present-ranges complete-choice-set complete-wrapped push-right gap-if-fill next-child continue-sequence next-left complete-sequence-right execute-task step rights continued work-off work-off-all evaluated rest before least-key solve-tasks take-best solve append-each visit-plan materialize render answer
+under r w n p d b = said (answer (charging r w n p) d b)
+
+-- under rule 1
 tried : ℕ → ℕ → ℕ → Prepared → Bounds → List (List ℕ)
-unfolding cheap cheaper same covers presented plan-at push-exact-task push-exact-result push-pending checked-add present present-all additional-plans committed finish-builder singleton present-range union-ranges present-wrapped wrap-range memo-insert complete-node push-joined build-pending checked-text push-gaps fill-boundary push-child complete-singleton begin-empty begin-text begin-newline begin-sequence begin-union begin-group begin-nest skip-choices push-alternatives begin-choice begin-kind begin-known begin-node complete-alias complete-union present-ranges complete-choice-set complete-wrapped push-right gap-if-fill next-child continue-sequence next-left complete-sequence-right execute-task step rights continued work-off work-off-all evaluated rest before least-key solve-tasks take-best solve append-each visit-plan materialize render answer
-tried w n p d b = said (answer (squares w n p) d b)
+unfolding under
+tried = under 1
 
 -- ---- the cases
 
@@ -113,10 +119,28 @@ abbrev abc-1-doc : Prepared
 abc-1-doc = prepared 0 (Text 1 ∷ [])
     (word 1 (32 ∷ []) ∷ word 3 (97 ∷ 98 ∷ 99 ∷ []) ∷ []) ([]) ([])
 
--- squares, not the plain excess
+-- rule 1 charges the square of the excess, rule 2 the excess
 abc-1 : tried 1 1 0 abc-1-doc ample ≡ page (97 ∷ 98 ∷ 99 ∷ []) 4 0 (counted 2 0 1 1 0 1 1 1 1) ([])
 unfolding tried
 abc-1 = refl
+
+abc-1-excess : under 2 1 1 0 abc-1-doc ample ≡ page (97 ∷ 98 ∷ 99 ∷ []) 2 0 (counted 2 0 1 1 0 1 1 1 1) ([])
+unfolding under
+abc-1-excess = refl
+
+-- `abcd`, or `abc` on two lines
+abbrev one-or-two-doc : Prepared
+one-or-two-doc = prepared 4 (Text 1 ∷ Text 2 ∷ HardLine ∷ Seq (1 ∷ 2 ∷ 1 ∷ []) ∷ Choice 0 3 ∷ [])
+    (word 1 (32 ∷ []) ∷ word 4 (97 ∷ 98 ∷ 99 ∷ 100 ∷ []) ∷ word 3 (97 ∷ 98 ∷ 99 ∷ []) ∷ []) ([]) ([])
+
+-- the page differs: rule 1 charges 9 and 4 + 4, rule 2 charges 3 and 2 + 2
+one-or-two : tried 1 0 0 one-or-two-doc ample ≡ page (97 ∷ 98 ∷ 99 ∷ 10 ∷ 97 ∷ 98 ∷ 99 ∷ []) 8 0 (counted 13 1 5 7 1 1 5 5 5) ([])
+unfolding tried
+one-or-two = refl
+
+one-or-two-excess : under 2 1 0 0 one-or-two-doc ample ≡ page (97 ∷ 98 ∷ 99 ∷ 100 ∷ []) 3 0 (counted 13 1 5 7 0 2 5 5 1) ([])
+unfolding under
+one-or-two-excess = refl
 
 -- Group of `ab` Break `cd`, flat `ab cd`
 abbrev group-doc : Prepared
@@ -265,6 +289,15 @@ lines-doc n = prepared (1 + n) (HardLine ∷ Nest 4294967295 0 ∷ doublings 1 n
 lines-65 : tried 1 0 0 (lines-doc 65) vast ≡ refusal 26 0 (counted 391 128 133 130 0 1 132 0 0)
 unfolding tried
 lines-65 = refl
+
+-- under rule 2 it takes more sharing: 96 doublings have their place, and the plan is walked
+lines-97 : under 2 1 0 0 (lines-doc 97) vast ≡ refusal 26 0 (counted 583 192 197 194 0 1 196 0 0)
+unfolding under
+lines-97 = refl
+
+lines-96 : under 2 1 0 0 (lines-doc 96) (bounds 256 256 256 16 256 256 8 64 8 1000 0) ≡ refusal 22 0 (counted 578 190 195 193 0 1 195 193 0)
+unfolding under
+lines-96 = refl
 
 -- 12
 ab-work-1 : tried 80 1 0 ab-doc (bounds 64 64 64 16 64 32 8 64 8 1 1000) ≡ refusal 12 0 (counted 1 0 1 0 0 0 0 0 0)

@@ -1,13 +1,14 @@
 -- Where no domain test stops the solver, the chosen layout's columns and cost, and every sum on the materializer's walk, have their place: 11 cannot come from the walk.
-use Prim.Native.Nat.{ℕ, zero, suc, _-_, _*_, _≤_, _<_, _^_}
+use Prim.Native.Nat.{ℕ, zero, suc, _≤_, _<_, _^_}
 use native.Mathlib.Omega.{arith}
-use native.Mathlib.Nat.{le-refl, mul-le-mul}
-use borrow.Author.Tests.{ltb-true}
+use native.Mathlib.Nat.{le-refl, lt-of-lt-of-le}
+use borrow.Author.Tests.{leb-true}
 use mathlib.Core.Bool.{Bool, true, false, cond}
 use mathlib.Core.List.{List, [], _∷_}
 use mathlib.Core.Path.{_≡_, refl, sym, subst}
 use Rattle.cost.specs.Cost.{Cost, zero-cost, cheaper}
-use Rattle.layout.specs.Rules.{Rules, squares, policy}
+use Rattle.cost.specs.Rising.{charged-small}
+use Rattle.layout.specs.Rules.{Rules, charging, policy}
 use Rattle.layout.specs.Layout.{Plan}
 use Rattle.layout.specs.Frontier.{Cand, least-from}
 use Rattle.layout.specs.Table.{Table}
@@ -112,19 +113,10 @@ module _ (R : Rules) (M : Mild R) (P : Prepared) (K : Ready P) where
 pub walk-in-place : (R : Rules) (p : Plan) → Sums R p 0 zero-cost (recount R p 0 zero-cost)
 walk-in-place R p = sums R p 0 zero-cost (recount R p 0 zero-cost) (record { overflow-below = omega arith; burden-below = omega arith })
 
--- document 01's rules are such: squares of columns have their place, and so has a newline cost of 32 bits
-square-small : (a : ℕ) → a < 2 ^ 32 → a * a < 2 ^ 128
-square-small a h =
-    let s : a ≤ 2 ^ 32 = omega arith in
-    let m : a * a ≤ 2 ^ 32 * 2 ^ 32 = mul-le-mul s s in
-    le-lt (a * a) (2 ^ 32 * 2 ^ 32) (2 ^ 128) m (ltb-true (2 ^ 32 * 2 ^ 32) (2 ^ 128) refl)
-  where
-    le-lt : (x y z : ℕ) → x ≤ y → y < z → x < z
-    le-lt x y z p q = omega arith
-
+-- the rules of any settings are such: what a column is charged has its place under either rule, and so has a newline cost of 32 bits
 policy-le : (p w i : ℕ) → policy p w i ≤ i
 policy-le zero w i = omega arith
 policy-le (suc p) w i = omega arith
 
-pub squares-mild : (w n p : ℕ) → n < 2 ^ 64 → Mild (squares w n p)
-squares-mild w n p h = record { charge-small = λ c s. square-small (c - w) (omega arith); newline-small = h; lower-le = policy-le p w }
+pub charging-mild : (r w n p : ℕ) → n < 2 ^ 64 → Mild (charging r w n p)
+charging-mild r w n p h = record { charge-small = λ c s. lt-of-lt-of-le (charged-small r w c s) (leb-true (2 ^ 64) (2 ^ 128) refl); newline-small = h; lower-le = policy-le p w }

@@ -3,11 +3,12 @@ ghost use mathlib.Core.Path.{_≡_};
 ghost use Rattle.page_setting.specs.Setting.{settingAt};
 use file_fields::Step;
 
-// Page width, newline cost, policy, and the step after them.
+// Page width, newline cost, policy, rule, and the step after them.
 pub struct Setting {
     pub width: u32,
     pub newline_cost: u32,
     pub policy: u32,
+    pub rule: u32,
     pub next: Step,
 }
 
@@ -15,7 +16,7 @@ pub fn setting_at(s: &[u8]) -> Setting
     ensures { λ r. ⌜ r ≡ settingAt (now (s .entry)) ⌝ }
 {
     let map = file_fields::formed(
-        7,
+        15,
         file_fields::byte_at(
             s,
             Step {
@@ -32,6 +33,7 @@ pub fn setting_at(s: &[u8]) -> Setting
         width: width.value,
         newline_cost: newline_cost.value,
         policy: m / 4 % 2,
+        rule: m / 8 % 2 + 1,
         next: newline_cost,
     }
 }

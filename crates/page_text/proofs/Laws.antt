@@ -14,7 +14,7 @@ use Rattle.cost.specs.declared.ConsumerCost.{ConsumerCost}
 use Rattle.stats.specs.declared.SolveStats.{SolveStats}
 use Rattle.machine.specs.Events.{Bounds}
 use Rattle.machine.specs.Answer.{Answer}
-use Rattle.answer.specs.Answer.{Ordered, Answers, out-of-order, wrong-file, laid-out}
+use Rattle.answer.specs.Answer.{Ordered, lent-as, Answers, out-of-order, wrong-file, laid-out}
 use Rattle.solve_workspace.specs.declared.RenderOptions.{RenderOptions}
 use Rattle.solve_workspace.specs.declared.Bounds.{Bounds as Sizes}
 use Rattle.solve_workspace.specs.Meets.{limits}
@@ -26,7 +26,7 @@ use Rattle.render.specs.declared.order.Lengths.{Lengths}
 use Rattle.render.specs.Order.{TablesLent, SolverLent, PageLent, InOrder}
 use Rattle.render.specs.Rendered.{span-of, meant, page-length}
 use Rattle.render.specs.Call.{settings, Rendering}
-use Rattle.page_text.specs.Printed.{page-bounds, settings-in, setting-fault, file-in, text-of, Printed, too-long, wrong-setting, answered, Right, Prints}
+use Rattle.page_text.specs.Printed.{page-bounds, settings-of, settings-in, setting-fault, file-in, text-of, Printed, too-long, wrong-setting, answered, Right, Prints}
 use Rattle.page_text.specs.Right.{setting-inside, right-answer, right-fault, right-long}
 use Rattle.page_text.specs.Shown.{Sized, RenderedSized, Fitting, Told, Shown}
 
@@ -98,13 +98,13 @@ lent l b e z =
     }
 
 in-order : {o : RenderOptions} {b : Sizes} {l : Lengths} → Lent l b → Ordered (Unit {0}) (settings o) → InOrder o b l
-in-order z d = record { options = record { width = d .wide; policy = d .policy-known }; tables = z .tables; solver = z .solver; page = z .page }
+in-order z d = record { options = record { width = d .wide; policy = d .policy-known; rule = d .rule-known }; tables = z .tables; solver = z .solver; page = z .page }
 
 lent-all : {file : List ℕ} {o : RenderOptions} {b : Sizes} {l : Lengths} {a : Answer} → Lent l b → Answers (InOrder o b l) file (settings o) (limits b) a
     → Answers (Unit {0}) file (settings o) (limits b) a
-lent-all {o = o} z (out-of-order n) = out-of-order (λ d. n (record { wide = d .wide; policy-known = d .policy-known; lent-enough = in-order {o = o} z d }))
-lent-all z (wrong-file n d m) = wrong-file n (record { wide = d .wide; policy-known = d .policy-known; lent-enough = tt }) m
-lent-all z (laid-out d m) = laid-out (record { wide = d .wide; policy-known = d .policy-known; lent-enough = tt }) m
+lent-all {o = o} z (out-of-order n) = out-of-order (λ d. n (lent-as (in-order {o = o} z d) d))
+lent-all z (wrong-file n d m) = wrong-file n (lent-as tt d) m
+lent-all z (laid-out d m) = laid-out (lent-as tt d) m
 
 pub shown :
     {file : List ℕ} {o : RenderOptions} {b : Sizes} {l : Lengths} {output₀ output : List ℕ} {rows₀ rows : List Row} {r : Rendered} {out : List ℕ} {k : ℕ}
@@ -140,9 +140,9 @@ module _ {input out : List ℕ} {k : ℕ} where
 
     pub prints-answer :
         st .next .fault ≡ 0
-        → Shown (take (length input - st .next .at) (drop (st .next .at) input)) (record { width = st .width; newline-cost = st .«newline_cost»; policy = st .policy }) out k
+        → Shown (take (length input - st .next .at) (drop (st .next .at) input)) (settings-of st) out k
         → Prints input out k
-    prints-answer n f = go (subst (λ (s : Setting). Shown (take (length input - s .next .at) (drop (s .next .at) input)) (record { width = s .width; newline-cost = s .«newline_cost»; policy = s .policy }) out k) e f)
+    prints-answer n f = go (subst (λ (s : Setting). Shown (take (length input - s .next .at) (drop (s .next .at) input)) (settings-of s) out k) e f)
       where
         go : Shown (take (length input - settingAt input .next .at) (file-in input)) (settings-in input) out k → Prints input out k
         go g = printing (answered h (sym (ap (λ (s : Setting). s .next .fault) e) ∙ n) (g .answer) (rw whole at (g .answers))) (right-answer (rw whole at (g .promised))) (g .text)

@@ -3,6 +3,7 @@ use mathlib.Core.Path.{_≡_}
 use mathlib.Core.List.{List}
 use Prim.Native.Nat.{ℕ, _≤_, _<_}
 use lib.ListN.{length, take, drop}
+use Rattle.page_setting.specs.declared.Setting.{Setting}
 use Rattle.page_setting.specs.Setting.{settingAt}
 use Rattle.page_lines.specs.Lines.{refused-line, page-text}
 use Rattle.machine.specs.Numbers.{Numbered}
@@ -28,9 +29,12 @@ page-bounds = record {
   visit-limit = 1000000;
 }
 
+abbrev pub settings-of : Setting → Settings
+settings-of s = record { width = s .width; newline-cost = s .«newline_cost»; policy = s .policy; rule = s .rule }
+
 -- what the setting in front says, its own refusal (0: none), and the file after it
 abbrev pub settings-in : List ℕ → Settings
-settings-in input = record { width = settingAt input .width; newline-cost = settingAt input .«newline_cost»; policy = settingAt input .policy }
+settings-in input = settings-of (settingAt input)
 
 abbrev pub setting-fault : List ℕ → ℕ
 setting-fault input = settingAt input .next .fault

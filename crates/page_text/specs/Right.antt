@@ -59,7 +59,7 @@ module _ (s : List ℕ) where
 
   kept-setting : Kept s (settingAt s .next)
   unfolding settingAt sMap sWidth sNewlineCost
-  kept-setting = kept-field _ _ (kept-field _ _ (kept-formed 7 _ (kept-byte (got 0 0) (record { inside = omega arith; small = omega arith }))))
+  kept-setting = kept-field _ _ (kept-field _ _ (kept-formed _ _ (kept-byte (got 0 0) (record { inside = omega arith; small = omega arith }))))
 
   pub setting-inside : settingAt s .next .at ≤ length s
   setting-inside = kept-setting .inside

@@ -138,6 +138,7 @@ pub fn print_page(input: &[u8], text: &mut [u8; 32870]) -> usize
         width: setting.width,
         newline_cost: setting.newline_cost,
         policy: setting.policy,
+        rule: setting.rule,
     };
     let at = next.at;
     print_file(&input[at..], options, text)

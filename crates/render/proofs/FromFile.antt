@@ -37,7 +37,7 @@ record Left (s : List ℕ) (n : Counts) (nodes : List (List ℕ)) (edges choices
   holds : Holds (tablesOf s) (countsOf s) nodes edges choices texts bytes
 
 in-order : {o : RenderOptions} {b : Bounds} {l : Lengths} → InOrder o b l → Ordered (InOrder o b l) (settings o)
-in-order i = record { wide = i .options .width; policy-known = i .options .policy; lent-enough = i }
+in-order i = record { wide = i .options .width; policy-known = i .options .policy; rule-known = i .options .rule; lent-enough = i }
 
 module _ (s : List ℕ) (lent : Type 0) (nodes : List (List ℕ)) (edges choices : List ℕ) (texts : List (List ℕ)) (bytes : List ℕ) where
   left : {a : FileAnswer} (n : Counts) → Reads s lent nodes edges choices texts bytes a → a ≡ Accepted n → Left s n nodes edges choices texts bytes

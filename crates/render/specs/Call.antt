@@ -34,7 +34,7 @@ use Rattle.render.specs.Rendered.{meant, Stands}
 use Rattle.render.specs.Drafts.{Half}
 
 abbrev pub settings : RenderOptions → Settings
-settings o = record { width = o .width; newline-cost = o .«newline_cost»; policy = o .policy }
+settings o = record { width = o .width; newline-cost = o .«newline_cost»; policy = o .policy; rule = o .rule }
 
 -- ---- the whole call
 

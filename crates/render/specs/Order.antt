@@ -1,4 +1,4 @@
--- Document 01, refusal 1 (order): width 0, policy above 1, or a lent slice shorter than its size. docs/MEMORY.md has the words an item takes.
+-- Document 01, refusal 1 (order): width 0, policy above 1, a rule that is not 1 or 2 (document 02, change 5), or a lent slice shorter than its size. docs/MEMORY.md has the words an item takes.
 use Prim.Native.Nat.{ℕ, _*_, _≤_, _<_}
 use Rattle.memo.specs.Sizes.{SlotsFor}
 pub use Rattle.prepare.specs.File.{TablesLent}
@@ -9,6 +9,7 @@ use Rattle.render.specs.declared.order.Lengths.{Lengths}
 pub record OptionsRight (o : RenderOptions) : Type 0 where
   pub width : 0 < o .width
   pub policy : o .policy ≤ 1
+  pub rule : (1 ≤ o .rule) × (o .rule ≤ 2)
 
 pub record StacksLent (b : Bounds) (l : Lengths) : Type 0 where
   pub tasks : b .stack ≤ l .tasks

@@ -32,7 +32,13 @@ fn options_right(o: RenderOptions) -> bool
     if o.width == 0 {
         return false;
     }
-    o.policy <= 1
+    if 1 < o.policy {
+        return false;
+    }
+    if o.rule == 0 {
+        return false;
+    }
+    o.rule <= 2
 }
 
 fn stacks_lent(b: Bounds, l: Lengths) -> bool

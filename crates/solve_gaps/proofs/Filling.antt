@@ -4,14 +4,14 @@ use mathlib.Core.Option.{none, some}
 use Prim.Native.Nat.{ℕ, suc, _+_, _<_, _^_}
 use native.Mathlib.Omega.{arith}
 use lib.ListN.{getD}
-use Rattle.cost.specs.Charge.{squared, text-cost}
+use Rattle.cost.specs.Charge.{text-cost}
 use Rattle.cost.specs.Cost.{Cost}
 use Rattle.cost.specs.Value.{text-outcome, outcome, value}
 use Rattle.cost.specs.declared.ConsumerCost.{ConsumerCost}
 use Rattle.cost.specs.declared.Reason.{Reason}
 use Rattle.cost.specs.declared.Costed.{Costed}
 use Rattle.cost.specs.declared.Costed.the-variants.{Cost as Is, Failed}
-use Rattle.layout.specs.Rules.{Rules, squares}
+use Rattle.layout.specs.Rules.{Rules}
 use Rattle.frontier.specs.declared.ScratchCandidate.{ScratchCandidate}
 use Rattle.frontier.specs.Candidates.{carried}
 use Rattle.machine.specs.Events.{Counts, Prog, ret, emit, _>>=_}
@@ -20,6 +20,7 @@ use Rattle.machine.specs.Model.{Prepared, State, Scratch, Candidate, Got, Made,
 use Rattle.machine.specs.Solver.{checked-text, push-gaps, push-joined, newline, present, begin-builder, finish-builder}
 use Rattle.solve_workspace.specs.declared.Bounds.{Bounds}
 use Rattle.solve_workspace.specs.declared.Registers.{Registers}
+use Rattle.solve_workspace.specs.declared.RenderOptions.{RenderOptions}
 use Rattle.solve_workspace.specs.declared.Why.{Why}
 use Rattle.solve_workspace.specs.declared.Why.the-variants.{Domain}
 use Rattle.solve_workspace.specs.declared.Reached.{Reached}
@@ -27,6 +28,7 @@ use Rattle.solve_workspace.specs.declared.Reached.the-variants.{Go, Stop}
 use Rattle.solve_workspace.specs.Meets.{Meets, Leads, counts}
 use Rattle.solve_workspace.specs.Rows.{survivor}
 pub use Rattle.solve_workspace.specs.Reading.{any-space}
+use Rattle.solve_workspace.specs.Reading.{rules}
 use Rattle.solve_workspace.specs.Runs.{leads-seq, halt, via}
 use Rattle.solve_workspace.specs.Costs.{text-fine, text-stop, column-go}
 use Rattle.solve_node.specs.declared.LeafCandidate.{LeafCandidate}
@@ -34,24 +36,24 @@ use Rattle.solve_node.specs.declared.LeafCandidate.the-variants.{Candidate as A
 use Rattle.solve_node.specs.Begun.{leaf-scratch}
 use Rattle.solve_gaps.specs.Gaps.{spacing, bounding, gap}
 
-pub space-small : (w column : ℕ) (r : Costed) (k : ConsumerCost) → outcome r ≡ text-outcome w column 1 → r ≡ Is k → column + 1 < 2 ^ 32
-space-small w column r k e f = text-fine w column 1 r k e f .small
+pub space-small : (o : RenderOptions) (column : ℕ) (r : Costed) (k : ConsumerCost) → outcome r ≡ text-outcome (o .rule) (o .width) column 1 → r ≡ Is k → column + 1 < 2 ^ 32
+space-small o column r k e f = text-fine o column 1 r k e f .small
 
-pub space-stop : {b : Bounds} (w n p column indent : ℕ) (P : Prepared) (s : Registers) (r : Costed) (y : Reason) (S : State) (f : Registers → Got) → outcome r ≡ text-outcome w column 1 → r ≡ Failed y
-    → Meets b (counts s) (bounding (squares w n p) P column indent S) (Stop (Domain y) 0 s) f
+pub space-stop : {b : Bounds} (o : RenderOptions) (column indent : ℕ) (P : Prepared) (s : Registers) (r : Costed) (y : Reason) (S : State) (f : Registers → Got) → outcome r ≡ text-outcome (o .rule) (o .width) column 1 → r ≡ Failed y
+    → Meets b (counts s) (bounding (rules o) P column indent S) (Stop (Domain y) 0 s) f
 unfolding bounding checked-text
-space-stop w n p column indent P s r y S f e q = text-stop s w column 1 r y _ f e q
+space-stop o column indent P s r y S f e q = text-stop s o column 1 r y _ f e q
 
-pub space-go : {b : Bounds} {k : Counts} {a : Reached} {f : Registers → Got} (w n p column indent x : ℕ) (P : Prepared) (r : Costed) (c : ConsumerCost) (d : ScratchCandidate) (S : State)
-    → outcome r ≡ text-outcome w column 1 → r ≡ Is c → survivor (carried d) ≡ scratch (value c) (column + 1) (Made (PlanText x)) → P .space-text ≡ x
-    → Meets b k (spacing (squares w n p) P (survivor (carried d)) indent S) a f → Meets b k (bounding (squares w n p) P column indent S) a f
+pub space-go : {b : Bounds} {k : Counts} {a : Reached} {f : Registers → Got} (o : RenderOptions) (column indent x : ℕ) (P : Prepared) (r : Costed) (c : ConsumerCost) (d : ScratchCandidate) (S : State)
+    → outcome r ≡ text-outcome (o .rule) (o .width) column 1 → r ≡ Is c → survivor (carried d) ≡ scratch (value c) (column + 1) (Made (PlanText x)) → P .space-text ≡ x
+    → Meets b k (spacing (rules o) P (survivor (carried d)) indent S) a f → Meets b k (bounding (rules o) P column indent S) a f
 unfolding bounding checked-text
-space-go {b = b} {k = k} {a = a} {f = f} w n p column indent x P r c d S e q g t m =
-    let fine = text-fine w column 1 r c e q in
-    let same : survivor (carried d) ≡ scratch (text-cost (squared w) column 1) (column + 1) (Made (PlanText (P .space-text))) =
-    (g ∙ (ap (λ (z : Cost). scratch z (column + 1) (Made (PlanText x))) (fine .is) ∙ ap (λ (y : ℕ). scratch (text-cost (squared w) column 1) (column + 1) (Made (PlanText y))) (sym t))) in
-    via (column-go (column + 1) (spacing (squares w n p) P (scratch (text-cost (squared w) column 1) (column + 1) (Made (PlanText (P .space-text)))) indent S) (fine .small))
-    (subst (λ (z : Scratch). Meets b k (spacing (squares w n p) P z indent S) a f) same m)
+space-go {b = b} {k = k} {a = a} {f = f} o column indent x P r c d S e q g t m =
+    let fine = text-fine o column 1 r c e q in
+    let same : survivor (carried d) ≡ scratch (text-cost (rules o .charge) column 1) (column + 1) (Made (PlanText (P .space-text))) =
+    (g ∙ (ap (λ (z : Cost). scratch z (column + 1) (Made (PlanText x))) (fine .is) ∙ ap (λ (y : ℕ). scratch (text-cost (rules o .charge) column 1) (column + 1) (Made (PlanText y))) (sym t))) in
+    via (column-go (column + 1) (spacing (rules o) P (scratch (text-cost (rules o .charge) column 1) (column + 1) (Made (PlanText (P .space-text)))) indent S) (fine .small))
+    (subst (λ (z : Scratch). Meets b k (spacing (rules o) P z indent S) a f) same m)
 
 -- five in a sequence, the first three by themselves
 last-two : {D E F : Type 0} (s : D → Prog E) (t : E → Prog F) (r : Prog D) → (r >>= (λ w. s w >>= t)) ≡ ((r >>= s) >>= t)

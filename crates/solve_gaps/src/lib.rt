@@ -15,7 +15,6 @@ ghost use Rattle.solve_builder.specs.Building.{Slots, Building, BuildingAt};
 ghost use Rattle.solve_gaps.specs.Gaps.{spacing, bounding, gap};
 use cost::ConsumerCost;
 use cost::Costed;
-use cost::PreparedConsumerCostModel;
 use file_tables::TextId;
 use frontier::ScratchCandidate;
 use plan::PendingPlan;
@@ -91,10 +90,7 @@ fn boundary(
     ensures meets { λ a. ⌜ ((P : Prepared) (ts rs ps es : List Row) → P .space-text ≡ space .0 → Meets b (counts (regs (now (g .entry)))) (bounding (rules options) P column indent (abs (regs (now (g .entry))) ts rs ps es (now (kept .entry)) (now (frontier .entry)) (now (plans .entry)))) (reached a (now (g .exit))) (λ s. got (range (s .start) (s .len)) (abs s ts rs ps es (now (kept .exit)) (now (frontier .exit)) (now (plans .exit))))) ⌝ }
     ensures keeps { λ a. ⌜ Keeps (regs (now (g .entry))) (reached a (now (g .exit))) ⌝ }
 {
-    let model = PreparedConsumerCostModel {
-        width: options.width,
-        newline_cost: options.newline_cost,
-    };
+    let model = solve_workspace::cost_model(options);
     match ConsumerCost::text(model, column, 1) {
         Costed::Failed(reason) => Turn::Halted(Why::Domain(reason), 0),
         Costed::Cost(cost) => {

@@ -10,13 +10,13 @@ use lib.Dec.{eqb}
 use lib.ListN.{getD}
 use Rattle.file_tables.specs.Tables.{RowIs}
 use Rattle.cost.specs.Cost.{Cost, zero-cost}
-use Rattle.cost.specs.Charge.{squared, newline-cost}
+use Rattle.cost.specs.Charge.{newline-cost}
 use Rattle.cost.specs.Value.{cost, past, text-outcome, outcome, value}
 use Rattle.cost.specs.declared.ConsumerCost.{ConsumerCost}
 use Rattle.cost.specs.declared.Reason.{Reason}
 use Rattle.cost.specs.declared.Costed.{Costed}
 use Rattle.cost.specs.declared.Costed.the-variants.{Cost as Is, Failed}
-use Rattle.layout.specs.Rules.{Rules, squares}
+use Rattle.layout.specs.Rules.{Rules}
 use Rattle.memo.specs.declared.MemoKey.{MemoKey}
 use Rattle.memo.specs.declared.CandidateRange.{CandidateRange}
 use Rattle.frontier.specs.declared.ScratchCandidate.{ScratchCandidate}
@@ -25,7 +25,8 @@ use Rattle.file_tables.specs.declared.TextId.{TextId}
 use Rattle.machine.specs.Events.{ret}
 use Rattle.machine.specs.Model.{Prepared, State, scratch, got, Made, PlanEmpty, PlanText, PlanNewline, children}
 use Rattle.machine.specs.Solver.{begin-empty, begin-newline, newline, gap-if-fill}
-use Rattle.solve_workspace.specs.Reading.{node-of-kind, node-of-row, edge-part}
+use Rattle.solve_workspace.specs.declared.RenderOptions.{RenderOptions}
+use Rattle.solve_workspace.specs.Reading.{node-of-kind, node-of-row, edge-part, rules}
 use Rattle.solve_workspace.specs.Rows.{survivor}
 use Rattle.solve_workspace.specs.Runs.{leads-refl}
 use Rattle.solve_workspace.specs.Costs.{text-fine, text-stop, column-go}
@@ -44,11 +45,11 @@ pub empty-leaf : (R : Rules) (q : MemoKey) (z : Cost) (c : ScratchCandidate) →
 unfolding begin-empty
 empty-leaf R q z c f e = record { by = λ P b j S. rw (e, f) leads-refl }
 
-pub newline-is : (w n p indent : ℕ) (P : Prepared) (r : Costed) (k : ConsumerCost) (c : ScratchCandidate) → outcome r ≡ cost (newline-cost (squared w) n indent) → r ≡ Is k
-    → survivor (carried c) ≡ scratch (value k) indent (Made (PlanNewline indent)) → leaf-scratch (ACandidate c) ≡ some (newline (squares w n p) P indent)
-newline-is w n p indent P r k c f q e =
-    let g : cost (value k) ≡ cost (newline-cost (squared w) n indent) = sym (ap outcome q) ∙ f in
-    let v : value k ≡ newline-cost (squared w) n indent = cc in
+pub newline-is : (o : RenderOptions) (indent : ℕ) (P : Prepared) (r : Costed) (k : ConsumerCost) (c : ScratchCandidate) → outcome r ≡ cost (newline-cost (rules o .charge) (o .«newline_cost») indent) → r ≡ Is k
+    → survivor (carried c) ≡ scratch (value k) indent (Made (PlanNewline indent)) → leaf-scratch (ACandidate c) ≡ some (newline (rules o) P indent)
+newline-is o indent P r k c f q e =
+    let g : cost (value k) ≡ cost (newline-cost (rules o .charge) (o .«newline_cost») indent) = sym (ap outcome q) ∙ f in
+    let v : value k ≡ newline-cost (rules o .charge) (o .«newline_cost») indent = cc in
     ap some (e ∙ ap (λ (x : Cost). scratch x indent (Made (PlanNewline indent))) v)
 
 -- what has its place is not said to have none
@@ -62,17 +63,17 @@ unfolding begin-newline
 newline-leaf R q (ACandidate c) e = record { by = λ P b j S. let f : survivor (carried c) ≡ newline R P (q .indent) = (let g = e P in cc) in rw f leads-refl }
 newline-leaf R q (NoPlace y) e = record { by = λ P b s S f. let g = e P in let z : _≡_ {A = ℕ} 0 1 = cc in absurd (omega arith) }
 
-pub text-leaf : (w n p : ℕ) (q : MemoKey) (t : TextId) (width : ℕ) (r : Costed) (k : ConsumerCost) (c : ScratchCandidate) → outcome r ≡ text-outcome w (q .column) width → r ≡ Is k
-    → survivor (carried c) ≡ scratch (value k) (q .column + width) (Made (PlanText (t .0))) → Leafed (squares w n p) (Text t width) q (ACandidate c)
-text-leaf w n p q t width r k c e f g =
-    let fine = text-fine w (q .column) width r k e f in
+pub text-leaf : (o : RenderOptions) (q : MemoKey) (t : TextId) (width : ℕ) (r : Costed) (k : ConsumerCost) (c : ScratchCandidate) → outcome r ≡ text-outcome (o .rule) (o .width) (q .column) width → r ≡ Is k
+    → survivor (carried c) ≡ scratch (value k) (q .column + width) (Made (PlanText (t .0))) → Leafed (rules o) (Text t width) q (ACandidate c)
+text-leaf o q t width r k c e f g =
+    let fine = text-fine o (q .column) width r k e f in
     record { by = λ P b j S. rw (g, fine .is) (column-go (q .column + width) _ (fine .small)) }
 
-pub text-small : (w column width : ℕ) (r : Costed) (k : ConsumerCost) → outcome r ≡ text-outcome w column width → r ≡ Is k → column + width < 2 ^ 32
-text-small w column width r k e f = text-fine w column width r k e f .small
+pub text-small : (o : RenderOptions) (column width : ℕ) (r : Costed) (k : ConsumerCost) → outcome r ≡ text-outcome (o .rule) (o .width) column width → r ≡ Is k → column + width < 2 ^ 32
+text-small o column width r k e f = text-fine o column width r k e f .small
 
-pub text-fails : (w n p : ℕ) (q : MemoKey) (t : TextId) (width : ℕ) (r : Costed) (y : Reason) → outcome r ≡ text-outcome w (q .column) width → r ≡ Failed y → Leafed (squares w n p) (Text t width) q (NoPlace y)
-text-fails w n p q t width r y e f = record { by = λ P b s S g. text-stop s w (q .column) width r y _ g e f }
+pub text-fails : (o : RenderOptions) (q : MemoKey) (t : TextId) (width : ℕ) (r : Costed) (y : Reason) → outcome r ≡ text-outcome (o .rule) (o .width) (q .column) width → r ≡ Failed y → Leafed (rules o) (Text t width) q (NoPlace y)
+text-fails o q t width r y e f = record { by = λ P b s S g. text-stop s o (q .column) width r y _ g e f }
 
 -- ---- sequences
 

@@ -18,7 +18,6 @@ ghost use Rattle.machine.specs.Model.{children};
 ghost use Rattle.solve_node.specs.Begun.{Leafed, leaf-scratch, Filling, Begins, first-of, link-of, ChildIs, part-length, single-begun, inner-begun, Started, skipping, listing};
 use cost::ConsumerCost;
 use cost::Costed;
-use cost::PreparedConsumerCostModel;
 use cost::Reason;
 use file_tables::AnnotationId;
 use file_tables::NodeId;
@@ -537,10 +536,7 @@ pub enum LeafCandidate {
 fn text_candidate(options: RenderOptions, column: u32, text: TextId, width: u32) -> LeafCandidate
     ensures { λ r. ⌜ ((indent node : ℕ) → Leafed (rules options) (Leaf.Text text width) (record { node = node; column = column; indent = indent }) r) ⌝ }
 {
-    let model = PreparedConsumerCostModel {
-        width: options.width,
-        newline_cost: options.newline_cost,
-    };
+    let model = solve_workspace::cost_model(options);
     match ConsumerCost::text(model, column, width) {
         Costed::Failed(reason) => LeafCandidate::Failed(reason),
         Costed::Cost(cost) => {
@@ -558,10 +554,7 @@ fn text_candidate(options: RenderOptions, column: u32, text: TextId, width: u32)
 pub fn newline_candidate(options: RenderOptions, indent: u32) -> LeafCandidate
     ensures { λ r. ⌜ ((P : Prepared) → leaf-scratch r ≡ some (newline (rules options) P indent)) ⌝ }
 {
-    let model = PreparedConsumerCostModel {
-        width: options.width,
-        newline_cost: options.newline_cost,
-    };
+    let model = solve_workspace::cost_model(options);
     match ConsumerCost::newline(model, indent) {
         Costed::Failed(reason) => LeafCandidate::Failed(reason),
         Costed::Cost(cost) => LeafCandidate::Candidate(solve_workspace::scratch_candidate(

@@ -6,7 +6,7 @@ use native.Mathlib.Omega.{arith}
 use lib.Dec.{ltb}
 use borrow.Author.Tests.{ltb-true, lt-ltb}
 use Rattle.cost.specs.Cost.{Cost, add}
-use Rattle.cost.specs.Charge.{squared, text-cost}
+use Rattle.cost.specs.Charge.{text-cost}
 use Rattle.cost.specs.Value.{cost, past, if-so, within, text-outcome, outcome, value}
 use Rattle.cost.specs.declared.ConsumerCost.{ConsumerCost}
 use Rattle.cost.specs.declared.Reason.{Reason}
@@ -16,15 +16,17 @@ use Rattle.cost.specs.declared.Costed.the-variants.{Cost as Is, Failed}
 use Rattle.machine.specs.Events.{Counts, Prog, emit, _>>=_, Within}
 use Rattle.machine.specs.Solver.{checked-add}
 use Rattle.solve_workspace.specs.declared.Bounds.{Bounds}
+use Rattle.solve_workspace.specs.declared.RenderOptions.{RenderOptions}
 use Rattle.solve_workspace.specs.declared.Registers.{Registers}
 use Rattle.solve_workspace.specs.declared.Why.the-variants.{Domain}
 use Rattle.solve_workspace.specs.declared.Reached.the-variants.{Stop}
 use Rattle.solve_workspace.specs.Meets.{counts, Meets, Leads}
+use Rattle.solve_workspace.specs.Reading.{rules}
 
 -- a text's cost, where its last column has a place
-pub record Fine (w column width : ℕ) (c : ConsumerCost) : Type 0 where
+pub record Fine (o : RenderOptions) (column width : ℕ) (c : ConsumerCost) : Type 0 where
   pub small : column + width < 2 ^ 32
-  pub is : value c ≡ text-cost (squared w) column width
+  pub is : value c ≡ text-cost (rules o .charge) column width
 
 text-case : (t : Bool) (x : Cost) (r : Costed) (c : ConsumerCost) → outcome r ≡ if-so t (cost x) (past Column) → r ≡ Is c → (t ≡ true) × (value c ≡ x)
 text-case true x r c e q = let f : cost (value c) ≡ cost x = (sym (ap outcome q) ∙ e) in (refl, cc)
@@ -34,20 +36,20 @@ text-failure : (t : Bool) (x : Cost) (r : Costed) (y : Reason) → outcome r ≡
 text-failure true x r y e q = absurd (let f : past y ≡ cost x = (sym (ap outcome q) ∙ e) in let z : _≡_ {A = ℕ} 0 1 = cc in omega arith)
 text-failure false x r y e q = let f : past y ≡ past Column = (sym (ap outcome q) ∙ e) in (refl, cc)
 
-pub text-fine : (w column width : ℕ) (r : Costed) (c : ConsumerCost) → outcome r ≡ text-outcome w column width → r ≡ Is c → Fine w column width c
+pub text-fine : (o : RenderOptions) (column width : ℕ) (r : Costed) (c : ConsumerCost) → outcome r ≡ text-outcome (o .rule) (o .width) column width → r ≡ Is c → Fine o column width c
 unfolding text-outcome
-text-fine w column width r c e q =
-    let f = text-case (ltb (column + width) (2 ^ 32)) (text-cost (squared w) column width) r c e q in
+text-fine o column width r c e q =
+    let f = text-case (ltb (column + width) (2 ^ 32)) (text-cost (rules o .charge) column width) r c e q in
     record { small = ltb-true _ _ (f .0); is = f .1 }
 
 pub column-go : {A : Type 0} {b : Bounds} {k : Counts} (n : ℕ) (p : Prog A) → n < 2 ^ 32 → Leads b k (emit (Within Column n) p) k p
 column-go n p h = record { same = rw (lt-ltb n (2 ^ 32) h) }
 
-pub text-stop : {A : Type 0} {b : Bounds} (s : Registers) (w column width : ℕ) (r : Costed) (y : Reason) (p : Prog A) (f : Registers → A)
-    → outcome r ≡ text-outcome w column width → r ≡ Failed y → Meets b (counts s) (emit (Within Column (column + width)) p) (Stop (Domain y) 0 s) f
+pub text-stop : {A : Type 0} {b : Bounds} (s : Registers) (o : RenderOptions) (column width : ℕ) (r : Costed) (y : Reason) (p : Prog A) (f : Registers → A)
+    → outcome r ≡ text-outcome (o .rule) (o .width) column width → r ≡ Failed y → Meets b (counts s) (emit (Within Column (column + width)) p) (Stop (Domain y) 0 s) f
 unfolding text-outcome
-text-stop s w column width r y p f e q =
-    let g = text-failure (ltb (column + width) (2 ^ 32)) (text-cost (squared w) column width) r y e q in
+text-stop s o column width r y p f e q =
+    let g = text-failure (ltb (column + width) (2 ^ 32)) (text-cost (rules o .charge) column width) r y e q in
     record { is = rw (g .0, g .1); sound = tt }
 
 -- ---- sums

@@ -12,7 +12,7 @@ use Rattle.solve_workspace.specs.declared.Reached.{Reached}
 use Rattle.solve_workspace.specs.declared.Reached.the-variants.{Go, Stop}
 use Rattle.solve_workspace.specs.Meets.{limits, counts, reason, out, Sound, SoundAt, Meets, Leads}
 use mathlib.Core.List.{[]}
-use Rattle.layout.specs.Rules.{Rules, squares}
+use Rattle.layout.specs.Rules.{Rules, charging}
 use Rattle.machine.specs.Model.{Prepared}
 use Rattle.solve_workspace.specs.Reading.{prepared, tables}
 use Rattle.solve_workspace.specs.Frames.{Kept, Keeps, KeepsAt, SameMemo, SameMemoAt}
@@ -72,7 +72,7 @@ stopped b s e p w n f h x y = record { is = rw (h, x, y); sound = tt }
 
 -- what a contract that holds of all rules and tables is asked at, where neither matters
 abbrev pub any-rules : Rules
-any-rules = squares 1 0 0
+any-rules = charging 1 1 0 0
 
 abbrev pub any-tables : Prepared
 any-tables = prepared (tables [] [] [] [] [] 0 0 0)

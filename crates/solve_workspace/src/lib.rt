@@ -15,7 +15,9 @@ ghost use Rattle.solve_workspace.specs.Meets.{Meets, counts, ticked, rea
 ghost use Rattle.solve_workspace.specs.Rows.{Row, abs, task-of, meant, plan-of, scratch-of, survivor, candidate, candidate-of, row-list};
 ghost use Rattle.solve_workspace.specs.Frames.{Keeps, SameMemo, Popped, Memory, MemoryAt};
 ghost use Rattle.solve_workspace.specs.Lent.{WORDS, regs, Held, reached};
+ghost use Rattle.solve_workspace.specs.Reading.{cost-model};
 use cost::ConsumerCost;
+use cost::PreparedConsumerCostModel;
 use cost::Reason;
 use file_tables::AnnotationId;
 use frontier::Builder;
@@ -42,11 +44,23 @@ pub struct Bounds {
     pub visit_limit: u64,
 }
 
-// The settings (document 01, "Calls").
+// The settings (document 01, "Calls", and document 02, change 5).
 pub struct RenderOptions {
     pub width: u32,
     pub newline_cost: u32,
     pub policy: u32,
+    pub rule: u32,
+}
+
+// What costs depend on, of the settings.
+pub fn cost_model(options: RenderOptions) -> PreparedConsumerCostModel
+    ensures { λ r. ⌜ r ≡ cost-model options ⌝ }
+{
+    PreparedConsumerCostModel {
+        width: options.width,
+        newline_cost: options.newline_cost,
+        rule: options.rule,
+    }
 }
 
 // How far each store is filled, the range that was popped or finished last, the frontier that is being built, and the counts: what contracts say of the words.

@@ -2,7 +2,7 @@
 //
 //     case NAME
 //     file HEX                  `-` where it is empty
-//     settings WIDTH NEWLINE_COST POLICY
+//     settings WIDTH NEWLINE_COST POLICY RULE
 //     sizes STACK MEMO KEPT FRONTIER PLANS VISIT DEPTH OUTPUT SPANS
 //     limits WORK VISITS
 //
@@ -133,11 +133,12 @@ fn small(n: u64) -> u32 {
     4294967295
 }
 
-fn options_of(w: [u64; 3]) -> RenderOptions {
+fn options_of(w: [u64; 4]) -> RenderOptions {
     RenderOptions {
         width: small(w[0]),
         newline_cost: small(w[1]),
         policy: small(w[2]),
+        rule: small(w[3]),
     }
 }
 
@@ -289,7 +290,7 @@ fn run(file: &[u8], options: RenderOptions, b: Bounds) {
 
 fn call_at(input: &[u8], from: usize) -> usize {
     let mut file = [0u8; 8192];
-    let mut w = [0u64; 3];
+    let mut w = [0u64; 4];
     let mut s = [0u64; 9];
     let mut l = [0u64; 2];
     let named = name_at(input, from);

@@ -149,7 +149,7 @@ impl Rule<'_> {
         self.bounded(list)
     }
 
-    /// The sum of over(columns)² over the lines.
+    /// The sum over the lines of what their columns past the width are charged: squared under rule 1, as they are under rule 2.
     fn overflow(&self, layout: &Layout) -> u128 {
         let mut lines = vec![0u128];
         for put in &layout.puts {
@@ -161,7 +161,12 @@ impl Rule<'_> {
                 Put::Open(_) | Put::Close | Put::Fee(_) => {}
             }
         }
-        lines.iter().map(|columns| columns.saturating_sub(u128::from(self.settings.width)).pow(2)).sum()
+        let power = match self.settings.rule {
+            1 => 2,
+            2 => 1,
+            other => unreachable!("rule {other}"),
+        };
+        lines.iter().map(|columns| columns.saturating_sub(u128::from(self.settings.width)).pow(power)).sum()
     }
 
     fn burden(&self, layout: &Layout) -> u128 {

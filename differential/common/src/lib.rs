@@ -73,6 +73,8 @@ pub struct Settings {
     pub width: u32,
     pub newline_cost: u32,
     pub policy: u32,
+    /// How a line is charged: 1 the square of the columns past the width, 2 the columns themselves.
+    pub rule: u32,
 }
 
 /// The sizes in the order of the refusals 13 to 21.

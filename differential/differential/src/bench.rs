@@ -39,7 +39,7 @@ struct Subject {
 
 fn subject(rows: u64, width: u32) -> Subject {
     let tables = document(rows);
-    let settings = Settings { width, newline_cost: 1, policy: 0 };
+    let settings = Settings { width, newline_cost: 1, policy: 0, rule: 1 };
     let limits = common::Limits { work: 1 << 40, visits: 1 << 40 };
     let probe = Sizes { output: 1 << 24, ..PROBE };
     let (answer, trace) = model::render(&tables, &settings, &probe, &limits);
@@ -54,8 +54,8 @@ fn run(subject: &Subject, number: u64, times: u64) -> u64 {
     let Subject { file, tables, settings, .. } = subject;
     let [stack, memo, kept, frontier, plans, visit, depth, output, spans] = subject.sizes.list();
     let mut printer = Printer::new(gannozhi::Sizes { stack, memo, kept, frontier, plans, visit, depth, output, spans });
-    let set =
-        gannozhi::Settings { width: settings.width, newline_cost: settings.newline_cost, policy: settings.policy };
+    let Settings { width, newline_cost, policy, rule } = *settings;
+    let set = gannozhi::Settings { width, newline_cost, policy, rule };
     let document = reference::access::document(tables);
     let mut rust = Bench::new(&document, settings, &subject.sizes);
     let mut once = || match number {

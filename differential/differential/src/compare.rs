@@ -19,6 +19,11 @@ pub struct Tally {
     pub cases: u64,
     /// Of these, by the reference.
     pub by_reference: u64,
+    /// Of these, under rule 2; and pages under it: with an overflow, enumerated, with other bytes than under rule 1.
+    pub second_rule: u64,
+    pub second_pages: [u64; 3],
+    /// Calls with a rule that is none.
+    pub no_rule: u64,
     /// By number of refusal; 0 is a page.
     pub answers: [u64; 27],
     pub enumerated: u64,
@@ -39,6 +44,8 @@ pub struct Tally {
     pub limit_checks: u64,
     /// Documents drawn apart, in which something comes near the end of its width.
     pub near: u64,
+    /// Documents drawn apart, of lines past a narrow page.
+    pub narrow: u64,
     /// Domain refusals by reason: column, indent, overflow, burden.
     pub reasons: [u64; 4],
     pub peak_frontier: u64,
@@ -57,8 +64,8 @@ pub struct Call<'a> {
 impl Call<'_> {
     /// Settings and file as the program `page` reads them.
     pub fn input(&self) -> Vec<u8> {
-        let Settings { width, newline_cost, policy } = self.settings;
-        let mut input = vec![1 | u8::from(newline_cost > 0) << 1 | (policy as u8 & 1) << 2];
+        let Settings { width, newline_cost, policy, rule } = self.settings;
+        let mut input = vec![1 | u8::from(newline_cost > 0) << 1 | (policy as u8 & 1) << 2 | u8::from(rule == 2) << 3];
         input.extend(width.to_le_bytes());
         if newline_cost > 0 {
             input.extend(newline_cost.to_le_bytes());
@@ -69,11 +76,12 @@ impl Call<'_> {
 
     pub fn describe(&self) -> String {
         format!(
-            "file {}\nsettings {} {} {}\nsizes {:?}\nlimits {} {}\n",
+            "file {}\nsettings {} {} {} {}\nsizes {:?}\nlimits {} {}\n",
             to_hex(self.file),
             self.settings.width,
             self.settings.newline_cost,
             self.settings.policy,
+            self.settings.rule,
             self.sizes.list(),
             self.limits.work,
             self.limits.visits
@@ -88,6 +96,16 @@ pub struct Comparer {
 
 pub fn number(answer: &Answer) -> u32 {
     answer.as_ref().err().map_or(0, |refusal| refusal.number)
+}
+
+/// Whether the settings are no reason for 1.
+pub fn in_order(settings: &Settings) -> bool {
+    settings.width > 0 && settings.policy < 2 && matches!(settings.rule, 1 | 2)
+}
+
+/// Whether the reference can show the answer that the model gives: it reads no files, has no limits and knows rule 1 alone.
+pub fn shown(settings: &Settings, modelled: &Answer) -> bool {
+    settings.rule == 1 && !matches!(number(modelled), 1..=10 | 12 | 22)
 }
 
 pub fn counts(answer: &Answer) -> Counts {
@@ -123,8 +141,12 @@ impl Comparer {
         if counts.work != counts.hits + counts.misses + counts.generated || counts.pruned > counts.generated {
             self.difference("counts do not add up", call, &describe(&modelled), "");
         }
-        if document.is_some() && !matches!(found, 12 | 22) {
+        if document.is_some() && shown(&call.settings, &modelled) {
             self.tally.by_reference += 1;
+        }
+        if call.settings.rule == 2 {
+            self.tally.second_rule += 1;
+            self.tally.second_pages[0] += u64::from(modelled.as_ref().is_ok_and(|page| page.overflow > 0));
         }
         if let Some((what, other)) = self.unlike(call, document, &modelled) {
             self.difference(what, call, &describe(&other), &describe(&modelled));
@@ -206,7 +228,7 @@ impl Comparer {
         document: Option<(&Tables, &Document)>,
         modelled: &Answer,
     ) -> Option<(&'static str, Answer)> {
-        if let (Some((_, document)), false) = (document, matches!(number(modelled), 12 | 22)) {
+        if let (Some((_, document)), true) = (document, shown(&call.settings, modelled)) {
             let mut shown = reference::access::render(document, &call.settings, &call.sizes);
             reference::access::fill_in(&mut shown, modelled);
             if shown != *modelled {
@@ -237,11 +259,19 @@ impl Comparer {
         }
     }
 
+    /// What the same call gives under rule 2 and under rule 1.
+    pub fn other_page(&mut self, second: &Answer, first: &Answer) {
+        if let (Ok(second), Ok(first)) = (second, first) {
+            self.tally.second_pages[2] += u64::from(second.bytes != first.bytes);
+        }
+    }
+
     /// The first of the cheapest layouts, found by enumeration, is the page.
     pub fn enumerate(&mut self, call: &Call, tables: &Tables, answer: &Answer) {
         let Ok(page) = answer else { return };
         let Some(best) = brute::best(tables, &call.settings, 3_000, 400) else { return };
         self.tally.enumerated += 1;
+        self.tally.second_pages[1] += u64::from(call.settings.rule == 2);
         self.tally.layouts += best.layouts as u64;
         self.tally.ties += u64::from(best.cheapest > 1);
         if best.bytes != page.bytes

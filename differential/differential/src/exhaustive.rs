@@ -1,9 +1,10 @@
-//! All documents of a few nodes over a small alphabet, under all small settings; all files that differ in one byte, or are cut short, from a
-//! few small ones; every map byte beside every kind byte; all short texts.
+//! All documents of a few nodes over a small alphabet, and all Choices of two blocks of lines, under all small settings and both rules; all
+//! files that differ in one byte, or are cut short, from a few small ones; every map byte beside every kind byte; all short texts.
 
 use common::{kind, Limits, Node, Settings, Sizes, Tables, Text};
 
 use crate::compare::{Call, Comparer, LIMITS};
+use crate::fixed::Build;
 use crate::{fixed, pairs, texts};
 
 pub fn run(comparer: &mut Comparer, nodes: usize, progress: &mut dyn FnMut(&Comparer)) {
@@ -16,6 +17,7 @@ pub fn run(comparer: &mut Comparer, nodes: usize, progress: &mut dyn FnMut(&Comp
     for count in 1..=nodes {
         documents(comparer, &mut tables, count, progress);
     }
+    blocks(comparer, progress);
     files(comparer, progress);
     pairs::run(comparer, progress);
     texts::run(comparer, progress);
@@ -76,12 +78,35 @@ fn nodes(count: u32) -> Vec<(Node, Vec<u32>, Option<u32>)> {
     list
 }
 
+/// Choices of two blocks of one to three lines, each of 1 to 4 columns: few nodes have few lines, and it takes lines of different lengths
+/// for the rules to take different ones.
+fn blocks(comparer: &mut Comparer, progress: &mut dyn FnMut(&Comparer)) {
+    let longer = |blocks: &[Vec<usize>]| -> Vec<Vec<usize>> {
+        blocks.iter().flat_map(|block| (1..=4).map(|width| [&block[..], &[width]].concat())).collect()
+    };
+    let one = longer(&[vec![]]);
+    let two = longer(&one);
+    let all = [longer(&two), two, one].concat();
+    for (first, second) in all.iter().flat_map(|first| all.iter().map(move |second| (first, second))) {
+        let mut b = Build::new();
+        let line = b.node(kind::HARD_LINE, 0, 0);
+        let texts = [1, 2, 3, 4].map(|width| b.wide(&"abcd"[..width], width as u32));
+        let [first, second] = [first, second].map(|block| {
+            let lines: Vec<u32> = block.iter().flat_map(|width| [line, texts[width - 1]]).collect();
+            b.list(kind::SEQ, &lines[1..])
+        });
+        b.node(kind::CHOICE, first, second);
+        calls(comparer, &mut model::file::read(&b.file()).expect("an accepted file"));
+        progress(comparer);
+    }
+}
+
 fn calls(comparer: &mut Comparer, tables: &mut Tables) {
     tables.root = tables.nodes.len() as u32 - 1;
     let file = model::file::bytes(tables);
     // A later Group may have given a node a flat node that leads back to it.
     if model::file::read(&file).is_err() {
-        let settings = Settings { width: 1, newline_cost: 0, policy: 0 };
+        let settings = Settings { width: 1, newline_cost: 0, policy: 0, rule: 1 };
         let _ = comparer.call(&Call { file: &file, settings, sizes: Sizes::PAGE, limits: Limits::PAGE }, None);
         return;
     }
@@ -90,10 +115,14 @@ fn calls(comparer: &mut Comparer, tables: &mut Tables) {
     for width in 1..=3 {
         for newline_cost in 0..=1 {
             for policy in 0..=1 {
-                let settings = Settings { width, newline_cost, policy };
-                let call = Call { file: &file, settings, sizes: Sizes::PAGE, limits: LIMITS };
-                let answer = comparer.call(&call, Some((tables, &document)));
-                comparer.enumerate(&call, tables, &answer);
+                let [first, second] = [1, 2].map(|rule| {
+                    let settings = Settings { width, newline_cost, policy, rule };
+                    let call = Call { file: &file, settings, sizes: Sizes::PAGE, limits: LIMITS };
+                    let answer = comparer.call(&call, Some((tables, &document)));
+                    comparer.enumerate(&call, tables, &answer);
+                    answer
+                });
+                comparer.other_page(&second, &first);
             }
         }
     }
@@ -119,6 +148,7 @@ fn files(comparer: &mut Comparer, progress: &mut dyn FnMut(&Comparer)) {
 
 fn one(comparer: &mut Comparer, case: &fixed::Case, file: &[u8]) {
     comparer.tally.damaged += 1;
-    let settings = Settings { width: case.settings.width.max(1), policy: case.settings.policy.min(1), ..case.settings };
+    let Settings { width, newline_cost, policy, rule } = case.settings;
+    let settings = Settings { width: width.max(1), newline_cost, policy: policy.min(1), rule: rule.clamp(1, 2) };
     crate::damaged_file(comparer, &Call { file, settings, sizes: Sizes::PAGE, limits: LIMITS });
 }

@@ -1,5 +1,5 @@
-//! The hand-checked cases of document 01 and the separating inputs of docs/DECISIONS.md, each with what it must give. They are run on
-//! the model and on the reference at the start of every run, and open the frozen sample.
+//! The hand-checked cases of document 01, the separating inputs of docs/DECISIONS.md and calls under cost rule 2, each with what it must
+//! give. They are run on the model and (under rule 1) on the reference at the start of every run, and open the frozen sample.
 
 use common::{from_hex, kind, Limits, Node, Settings, Sizes, Tables, Text};
 
@@ -48,9 +48,14 @@ impl Build {
         self.node(kind, start, children.len() as u32)
     }
 
-    fn doubled(&mut self, mut node: u32, times: u32) -> u32 {
+    fn doubled(&mut self, node: u32, times: u32) -> u32 {
+        self.repeated(node, 2, times)
+    }
+
+    /// A Seq of so many of the node, and again of that.
+    fn repeated(&mut self, mut node: u32, many: usize, times: u32) -> u32 {
         for _ in 0..times {
-            node = self.list(kind::SEQ, &[node, node]);
+            node = self.list(kind::SEQ, &vec![node; many]);
         }
         node
     }
@@ -63,7 +68,7 @@ impl Build {
 }
 
 fn settings(width: u32, newline_cost: u32, policy: u32) -> Settings {
-    Settings { width, newline_cost, policy }
+    Settings { width, newline_cost, policy, rule: 1 }
 }
 
 fn hex(text: &str) -> Vec<u8> {
@@ -79,6 +84,21 @@ fn nests_choice() -> Vec<u8> {
     let inner = b.node(kind::NEST, u32::MAX, empty);
     let nests = b.node(kind::NEST, 1, inner);
     b.node(kind::CHOICE, empty, nests);
+    b.file()
+}
+
+pub fn abc() -> Vec<u8> {
+    let mut b = Build::new();
+    b.text("abc");
+    b.file()
+}
+
+/// Choice(`abcd`, Seq[`abc`, HardLine, `abc`]).
+pub fn one_or_two() -> Vec<u8> {
+    let mut b = Build::new();
+    let (long, short, line) = (b.text("abcd"), b.text("abc"), b.node(kind::HARD_LINE, 0, 0));
+    let two = b.list(kind::SEQ, &[short, line, short]);
+    b.node(kind::CHOICE, long, two);
     b.file()
 }
 
@@ -100,9 +120,7 @@ pub fn cases() -> Vec<Case> {
     };
     add("ab, W 2", ab(), settings(2, 1, 0), page, none, Page("ab", 0, 0, Some(2)));
     add("ab, W 1", ab(), settings(1, 1, 0), page, none, Page("ab", 1, 0, Some(2)));
-    let mut b = Build::new();
-    b.text("abc");
-    add("abc, W 1: a square", b.file(), settings(1, 1, 0), page, none, Page("abc", 4, 0, Some(2)));
+    add("abc, W 1: a square", abc(), settings(1, 1, 0), page, none, Page("abc", 4, 0, Some(2)));
     let group = || {
         let mut b = Build::new();
         let (ab, line, cd) = (b.text("ab"), b.node(kind::BREAK, 0, 0), b.text("cd"));
@@ -422,6 +440,54 @@ pub fn cases() -> Vec<Case> {
         ("99: 7 before 9", "05 01000000 02000000 0005 sp 02 01000000 80", 7),
     ] {
         add(name, hex(file), usual, page, none, Refused(number, 0, Some(0)));
+    }
+
+    // Cost rule 2 (109, 111, 113).
+    let second = |width, newline_cost| Settings { rule: 2, ..settings(width, newline_cost, 0) };
+    add("109: abc, W 1, rule 2: no square", abc(), second(1, 1), page, none, Page("abc", 2, 0, Some(2)));
+    let mut b = Build::new();
+    let pair = [b.text("ab"), b.text("c")];
+    b.list(kind::SEQ, &pair);
+    // 1, and 2 less 1.
+    add(
+        "109: ab and c, W 1, rule 2: from past the width",
+        b.file(),
+        second(1, 1),
+        page,
+        none,
+        Page("abc", 2, 0, Some(6)),
+    );
+    // One line of 3 too many, or two lines of 2 too many each: 9 and 8, or 3 and 4.
+    add("109: one or two, rule 1", one_or_two(), settings(1, 0, 0), page, none, Page("abc\nabc", 8, 0, None));
+    add("109: one or two, rule 2", one_or_two(), second(1, 0), page, none, Page("abcd", 3, 0, None));
+    add("109: one or two, W 2, rule 2: a tie", one_or_two(), second(2, 0), page, none, Page("abcd", 2, 0, None));
+    for (name, file, rule) in [
+        ("111: rule 0", ab(), 0),
+        ("111: rule 3", ab(), 3),
+        ("111: rule 2^32-1", ab(), u32::MAX),
+        ("111: rule 0 before the empty file", vec![], 0),
+        ("111: rule 3 before the empty file", vec![], 3),
+    ] {
+        add(name, file, Settings { rule, ..usual }, page, none, Refused(1, 0, Some(0)));
+    }
+    // Lines of 2^32 - 2 too many: 2^96 of them have their place, and 2^97 have none; at newline cost 1 the burden of 2^64 has none.
+    let lines = |many: usize, times: u32, doublings: u32| {
+        let mut b = Build::new();
+        let line = b.node(kind::HARD_LINE, 0, 0);
+        let nest = b.node(kind::NEST, u32::MAX, line);
+        let node = b.repeated(nest, many, times);
+        b.doubled(node, doublings);
+        b.file()
+    };
+    for (name, file, newline_cost, want) in [
+        ("113: overflow doubled 96 times", lines(2, 96, 0), 0, Refused(20, 32_769, None)),
+        ("113: overflow doubled 97 times", lines(2, 97, 0), 0, Refused(26, 0, None)),
+        ("113: overflow four times as much 48 times", lines(4, 48, 0), 0, Refused(20, 32_769, None)),
+        ("113: overflow four times as much 48 times, doubled", lines(4, 48, 1), 0, Refused(26, 0, None)),
+        ("113: burden of 2^63 newlines", lines(4, 31, 1), 1, Refused(20, 32_769, None)),
+        ("113: burden of 2^64 newlines", lines(4, 32, 0), 1, Refused(26, 0, None)),
+    ] {
+        add(name, file, second(1, newline_cost), page, none, want);
     }
     list
 }

@@ -86,11 +86,11 @@ impl Lent {
     ) -> Result<gannozhi::Rendered, gannozhi::Refusal> {
         let [nodes, edges, choices, texts, bytes, tasks, results, pending, index, entries, kept, frontier, plans, visit, depth, output, spans] =
             lengths;
-        let Settings { width, newline_cost, policy } = *settings;
+        let Settings { width, newline_cost, policy, rule } = *settings;
         let most = u32::MAX;
         gannozhi::render_lent(
             file,
-            &gannozhi::Settings { width, newline_cost, policy },
+            &gannozhi::Settings { width, newline_cost, policy, rule },
             &gannozhi::Sizes {
                 stack: most,
                 memo: most,
@@ -193,10 +193,11 @@ pub fn run(seed: u64, cases: u64, whole_page: bool) -> i32 {
     for index in 0..cases {
         let rng = &mut Rng::of_case(seed, index);
         let (tables, profile) = crate::accepted(rng, &mut Tally::default());
-        let settings = generate::settings(rng, profile.is_some_and(|profile| profile.extreme()));
+        let drawn = generate::settings(rng, profile.is_some_and(|profile| profile.extreme()));
+        let settings = Settings { rule: generate::rule(seed, index), ..drawn };
         tried.modelled(&format!("document {index}"), &model::file::bytes(&tables), &settings, &LIMITS);
     }
-    let settings = Settings { width: 80, newline_cost: 1, policy: 0 };
+    let settings = Settings { width: 80, newline_cost: 1, policy: 0, rule: 1 };
     for short in 0..17 {
         let mut less = lengths;
         less[short] -= 1;

@@ -1,6 +1,7 @@
 //! `differential --seed S --cases N`: random files on the model, the reference, brute force and our library (`--document I`: the one
 //! document of that number again).
-//! `differential exhaustive --nodes N`: all documents of up to N nodes over a small alphabet, all files one byte away from a few, all pairs and texts.
+//! `differential exhaustive --nodes N`: all documents of up to N nodes over a small alphabet, all Choices of two blocks of lines, all files one
+//! byte away from a few, all pairs and texts.
 //! `differential pairs`: every map byte beside every kind byte.
 //! `differential texts`: all texts of up to 2 bytes, and of 3 and 4 over the bytes where the rule of texts changes.
 //! `differential report --rows N --seed S`: prints the file of a report of N rows, made by prepare.rs, in hexadecimal.
@@ -25,8 +26,8 @@ mod texts;
 
 use std::time::Instant;
 
-use common::{Limits, Sizes, Tables};
-use compare::{number, Call, Comparer, LIMITS, PROBE};
+use common::{Limits, Settings, Sizes, Tables};
+use compare::{in_order, number, Call, Comparer, LIMITS, PROBE};
 use generate::files::Profile;
 use generate::Rng;
 
@@ -93,7 +94,7 @@ fn run() -> i32 {
             let nodes = value("--nodes").unwrap_or(3) as usize;
             exhaustive::run(&mut comparer, nodes, &mut so_far);
             Some(format!(
-                "all documents of up to {nodes} nodes; all files one byte away from, or cut out of, the fixed ones; all pairs of map and kind; all short texts"
+                "all documents of up to {nodes} nodes; all choices of two blocks of lines; all files one byte away from, or cut out of, the fixed ones; all pairs of map and kind; all short texts"
             ))
         }
         Some("pairs") => {
@@ -149,6 +150,11 @@ fn report(comparer: &Comparer, seed: u64, start: Instant) {
     if let Some(ours) = &comparer.ours {
         println!("{}", ours.tally());
     }
+    let [past, enumerated, other] = tally.second_pages;
+    println!(
+        "under rule 2 {}, of these pages with an overflow {past}, pages enumerated {enumerated}; pages other than those of rule 1 {other}; calls with a rule that is none {}",
+        tally.second_rule, tally.no_rule
+    );
     let answers: Vec<String> = (0..tally.answers.len())
         .filter(|number| tally.answers[*number] > 0)
         .map(|number| {
@@ -174,8 +180,8 @@ fn report(comparer: &Comparer, seed: u64, start: Instant) {
         tally.texts, tally.wide_texts[0], tally.wide_texts[1], tally.ill
     );
     println!(
-        "11, 25, 26 by reason: column {}, indent {}, overflow {}, burden {}; documents near the end of a width {}; largest frontier {}; frontiers presented alone {}",
-        tally.reasons[0], tally.reasons[1], tally.reasons[2], tally.reasons[3], tally.near, tally.peak_frontier, tally.presented
+        "11, 25, 26 by reason: column {}, indent {}, overflow {}, burden {}; documents near the end of a width {}, of lines past a narrow page {}; largest frontier {}; frontiers presented alone {}",
+        tally.reasons[0], tally.reasons[1], tally.reasons[2], tally.reasons[3], tally.near, tally.narrow, tally.peak_frontier, tally.presented
     );
     println!(
         "writer's refusals 3, 4, 6 to 10: {:?}",
@@ -188,8 +194,7 @@ fn report(comparer: &Comparer, seed: u64, start: Instant) {
 fn fixed_cases(comparer: &mut Comparer) {
     for case in fixed::cases() {
         let call = Call { file: &case.file, settings: case.settings, sizes: case.sizes, limits: case.limits };
-        let right = case.settings.width > 0 && case.settings.policy < 2;
-        let tables = comparer.read(&case.file).ok().filter(|_| right);
+        let tables = comparer.read(&case.file).ok().filter(|_| in_order(&case.settings));
         let document = tables.as_ref().map(reference::access::document);
         let answer = comparer.call(&call, tables.as_ref().zip(document.as_ref()));
         let met = match (&answer, &case.want) {
@@ -244,19 +249,20 @@ pub fn ill_texts(seed: u64, index: u64, tables: &Tables) -> Option<Tables> {
 fn document(comparer: &mut Comparer, seed: u64, index: u64) {
     let mut rng = Rng::of_case(seed, index);
     let rng = &mut rng;
+    let rule = generate::rule(seed, index);
     comparer.tally.documents += 1;
     comparer.present(rng);
     if rng.chance(300) {
         let tables = generate::bounds::tables(rng);
         refused_alike(comparer, &tables);
-        let settings = generate::settings(rng, false);
+        let settings = Settings { rule, ..generate::settings(rng, false) };
         damaged_file(
             comparer,
             &Call { file: &model::file::bytes(&tables), settings, sizes: Sizes::PAGE, limits: LIMITS },
         );
     }
     let (tables, profile) = accepted(rng, &mut comparer.tally);
-    let settings = generate::settings(rng, profile.is_some_and(Profile::extreme));
+    let settings = Settings { rule, ..generate::settings(rng, profile.is_some_and(Profile::extreme)) };
     let file = model::file::encode(&tables).expect("generated tables have the form");
     let call = Call { file: &file, settings, sizes: PROBE, limits: LIMITS };
     match comparer.read(&file) {
@@ -274,6 +280,44 @@ fn document(comparer: &mut Comparer, seed: u64, index: u64) {
     }
     calls(comparer, rng, &call, &tables);
     near_the_end(comparer, seed, index);
+    narrow(comparer, seed, index);
+    no_rule(comparer, seed, index, &call);
+}
+
+/// For one document in ten another one, of lines past a narrow page, under rule 2. It has a generator of its own, so the others go on as
+/// without it.
+fn narrow(comparer: &mut Comparer, seed: u64, index: u64) {
+    let mut rng = Rng::of_case(seed ^ 1 << 60, index);
+    if !rng.chance(10) {
+        return;
+    }
+    comparer.tally.narrow += 1;
+    let tables = generate::files::tables(&mut rng, Profile::Lines);
+    let settings = generate::narrow(&mut rng);
+    let file = model::file::encode(&tables).expect("generated tables have the form");
+    calls(comparer, &mut rng, &Call { file: &file, settings, sizes: PROBE, limits: LIMITS }, &tables);
+}
+
+/// For one document in thirty a call with a rule that is none, which is 1 before the file is looked at: every second one is cut short. It has
+/// a generator of its own, so the others go on as without it.
+fn no_rule(comparer: &mut Comparer, seed: u64, index: u64, call: &Call) {
+    let mut rng = Rng::of_case(seed ^ 1 << 61, index);
+    if !rng.chance(30) {
+        return;
+    }
+    comparer.tally.no_rule += 1;
+    let rule = match rng.below(3) {
+        0 => 0,
+        1 => rng.pick(&[3, 4, 257, 258, 1 << 31, u32::MAX]),
+        _ => rng.within(3, u32::MAX),
+    };
+    let settings = Settings { rule, ..call.settings };
+    let file = &call.file[..if rng.chance(2) { rng.index(call.file.len()) } else { call.file.len() }];
+    let call = Call { file, settings, sizes: Sizes::PAGE, ..*call };
+    let answer = comparer.call(&call, None);
+    if answer != Err(common::Refusal::early(1)) {
+        comparer.difference("no rule", &call, &common::describe(&answer), "");
+    }
 }
 
 /// For one document in ten another one, in which something comes near the end of its width. It has a generator of its own, so the others
@@ -284,8 +328,9 @@ fn near_the_end(comparer: &mut Comparer, seed: u64, index: u64) {
         return;
     }
     comparer.tally.near += 1;
-    let tables = generate::files::tables(&mut rng, Profile::Near);
-    let mut settings = generate::settings(&mut rng, true);
+    let rule = generate::rule(seed ^ 1 << 63, index);
+    let tables = generate::files::tables(&mut rng, Profile::Near(rule));
+    let mut settings = Settings { rule, ..generate::settings(&mut rng, true) };
     if rng.chance(2) {
         // Or the burden of so many newlines passes its width before their overflow.
         settings.newline_cost = 0;
@@ -303,6 +348,10 @@ fn calls(comparer: &mut Comparer, rng: &mut Rng, call: &Call, tables: &Tables) {
     let exact = Sizes::of(trace.needs.map(|need| need.min(u64::from(u32::MAX)) as u32));
     if let Ok(page) = &probe {
         comparer.tally.past_64 += u64::from(page.overflow >> 64 > 0);
+        if call.settings.rule == 2 {
+            let (other, _) = model::render(tables, &Settings { rule: 1, ..call.settings }, &PROBE, &LIMITS);
+            comparer.other_page(&probe, &other);
+        }
     }
     if number(&probe) == 12 {
         // Too much work for a run to the end: only sizes that stop it before.
@@ -397,8 +446,7 @@ fn refused_alike(comparer: &mut Comparer, tables: &Tables) {
 /// A damaged file is refused, or it is another accepted file: then it is the one that its tables write, and the reference answers.
 fn damaged_file(comparer: &mut Comparer, call: &Call) {
     let read = comparer.read(call.file);
-    let right = call.settings.width > 0 && call.settings.policy < 2;
-    let (Ok(tables), true) = (&read, right) else {
+    let (Ok(tables), true) = (&read, in_order(&call.settings)) else {
         let _ = comparer.call(call, None);
         return;
     };

@@ -298,6 +298,7 @@ pub mod library {
                     width: settings.width,
                     newline_cost: settings.newline_cost,
                     policy: settings.policy,
+                    rule: settings.rule,
                 },
                 &gannozhi::Sizes { stack, memo, kept, frontier, plans, visit, depth, output, spans },
                 &gannozhi::Limits { work: limits.work, visits: limits.visits },

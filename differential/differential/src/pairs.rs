@@ -29,7 +29,7 @@ pub fn run(comparer: &mut Comparer, progress: &mut dyn FnMut(&Comparer)) {
 /// Whether the pair is right: then the file is refused by one of `usual` (0: accepted), and otherwise by 3.
 fn file_right(comparer: &mut Comparer, file: &[u8], usual: &[u32]) -> bool {
     comparer.tally.pairs += 1;
-    let settings = Settings { width: 80, newline_cost: 1, policy: 0 };
+    let settings = Settings { width: 80, newline_cost: 1, policy: 0, rule: 1 };
     let call = Call { file, settings, sizes: Sizes::PAGE, limits: LIMITS };
     crate::damaged_file(comparer, &call);
     let number = model::file::read(file).err().unwrap_or(0);

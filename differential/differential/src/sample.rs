@@ -1,9 +1,9 @@
 //! The frozen sample: calls with their answers, as lines of text.
 //!
 //!     case NAME
-//!     by rust|model             who gave the answer (the model alone: 1 to 10, 12, 22; visits of a refusal are always the model's)
+//!     by rust|model             who gave the answer (the model alone: 1 to 10, 12, 22, rule 2; visits of a refusal are always the model's)
 //!     file HEX                  `-` where it is empty
-//!     settings WIDTH NEWLINE_COST POLICY
+//!     settings WIDTH NEWLINE_COST POLICY RULE
 //!     sizes STACK MEMO KEPT FRONTIER PLANS VISIT DEPTH OUTPUT SPANS
 //!     limits WORK VISITS
 //!     page HEX                  `-` where it is empty; or: refused NUMBER NEEDED
@@ -12,46 +12,64 @@
 //!     counts WORK FIT_CHECKS HITS MISSES GENERATED PRUNED PEAK_FRONTIER MEMO_ENTRIES PLAN_NODES VISITS
 //!     (an empty line)
 //!
-//! First the fixed cases; then random ones, taken in order from the seed's documents until each kind of answer has its share. All sizes
-//! are at most those of the program `page`.
+//! First the fixed cases; then random ones under rule 1, taken in order from the seed's documents until each kind of answer has its share;
+//! then random ones under rule 2, from other documents. All sizes are at most those of the program `page`.
 
 use common::{to_hex, Answer, Limits, Settings, Sizes, Tables};
+use generate::files::Profile;
 use generate::Rng;
 
-use crate::compare::{counts, number, Call, Tally};
+use crate::compare::{counts, number, shown, Call, Tally};
 use crate::fixed::{self, Case};
 
-/// How many of each answer: a page, then the refusals 1 to 22, 25 and 26.
+/// How many of each answer: a page, then the refusals 1 to 22, 25 and 26. Rule 2 is nothing to the reader.
 const SHARE: [usize; 27] =
     [90, 3, 12, 14, 10, 6, 14, 14, 6, 8, 12, 16, 12, 14, 12, 12, 12, 12, 12, 10, 14, 10, 10, 0, 0, 10, 10];
-const LONGEST_FILE: usize = 420;
+const SECOND_SHARE: [usize; 27] = [22, 1, 0, 0, 0, 0, 0, 0, 0, 0, 0, 1, 1, 1, 1, 1, 1, 1, 1, 1, 1, 1, 1, 0, 0, 1, 1];
+/// The last for rule 2: `test_calls` reads 262,144 bytes at most.
+const LONGEST_FILE: [usize; 2] = [420, 200];
 /// It takes many Seqs to pass the width of a cost.
-const LONGEST_FILE_OF_26: usize = 1_400;
+const LONGEST_FILE_OF_26: [usize; 2] = [1_400, 900];
 const LONGEST_PAGE: usize = 240;
+/// What makes another seed of a seed, for the documents under rule 2.
+const SECOND: u64 = 1 << 59;
 
 struct Sample {
+    rule: u32,
     left: [usize; 27],
     name: String,
 }
 
 pub fn print(seed: u64) {
-    let mut sample = Sample { left: SHARE, name: String::new() };
-    for case in fixed::cases() {
-        sample.name = case.name.to_string();
-        show(&sample.name, &case.file, &case.settings, &case.sizes, &case.limits);
+    for case in fixed::cases().iter().filter(|case| case.file.len() <= LONGEST_FILE_OF_26[0]) {
+        show(case.name, &case.file, &case.settings, &case.sizes, &case.limits);
     }
+    random(Sample { rule: 1, left: SHARE, name: String::new() }, "random", seed);
+    random(Sample { rule: 2, left: SECOND_SHARE, name: String::new() }, "rule 2: random", seed ^ SECOND);
+}
+
+fn random(mut sample: Sample, name: &str, seed: u64) {
     let mut index = 0;
     while sample.left.iter().any(|left| *left > 0) && index < 200_000 {
-        sample.name = format!("random {index}");
+        sample.name = format!("{name} {index}");
         document(&mut sample, seed, index);
         index += 1;
     }
 }
 
-fn document(sample: &mut Sample, seed: u64, index: u64) {
-    let rng = &mut Rng::of_case(seed, index);
+/// A document and its settings; under rule 2 every second one is of lines past a narrow page.
+fn drawn(rng: &mut Rng, rule: u32) -> (Tables, Settings) {
+    if rule == 2 && rng.chance(2) {
+        return (generate::files::tables(rng, Profile::Lines), generate::narrow(rng));
+    }
     let (tables, profile) = crate::accepted(rng, &mut Tally::default());
     let settings = generate::settings(rng, profile.is_some_and(|profile| profile.extreme()));
+    (tables, Settings { rule, ..settings })
+}
+
+fn document(sample: &mut Sample, seed: u64, index: u64) {
+    let rng = &mut Rng::of_case(seed, index);
+    let (tables, settings) = drawn(rng, sample.rule);
     let file = model::file::bytes(&tables);
     let limits = Limits { work: 20_000, visits: 20_000 };
     if let Some(tables) = crate::ill_texts(seed, index, &tables) {
@@ -98,12 +116,19 @@ fn document(sample: &mut Sample, seed: u64, index: u64) {
 fn take(sample: &mut Sample, rng: &mut Rng, file: &[u8], settings: &Settings, sizes: &Sizes, limits: &Limits) {
     let answer = model::answer(file, settings, sizes, limits);
     let small = match &answer {
-        // Mostly pages with something on them.
-        Ok(page) => page.bytes.len() <= LONGEST_PAGE && (page.bytes.len() > 6 || rng.chance(6)),
+        // Mostly pages with something on them; under rule 2 mostly something that it charges, and often another page than under rule 1.
+        Ok(page) => {
+            page.bytes.len() <= LONGEST_PAGE
+                && (page.bytes.len() > 6 || rng.chance(6))
+                && (sample.rule == 1
+                    || rng.chance(if page.overflow > 0 { 8 } else { 60 })
+                    || model::answer(file, &Settings { rule: 1, ..*settings }, sizes, limits)
+                        .is_ok_and(|other| other.bytes != page.bytes))
+        }
         Err(_) => true,
     };
     let number = number(&answer);
-    let longest = if number == 26 { LONGEST_FILE_OF_26 } else { LONGEST_FILE };
+    let longest = if number == 26 { LONGEST_FILE_OF_26 } else { LONGEST_FILE }[sample.rule as usize - 1];
     let left = &mut sample.left[number as usize];
     if *left == 0 || !small || file.len() > longest {
         return;
@@ -122,8 +147,8 @@ fn dash(text: String) -> String {
 
 fn show(name: &str, file: &[u8], settings: &Settings, sizes: &Sizes, limits: &Limits) {
     let modelled = model::answer(file, settings, sizes, limits);
-    let by_model = matches!(number(&modelled), 1..=10 | 12 | 22);
-    let answer: Answer = if by_model {
+    let by_rust = shown(settings, &modelled);
+    let answer: Answer = if !by_rust {
         modelled
     } else {
         let tables = model::file::read(file).expect("an accepted file");
@@ -134,9 +159,9 @@ fn show(name: &str, file: &[u8], settings: &Settings, sizes: &Sizes, limits: &Li
     };
     let words = |list: &[u64]| list.iter().map(u64::to_string).collect::<Vec<_>>().join(" ");
     println!("case {name}");
-    println!("by {}", if by_model { "model" } else { "rust" });
+    println!("by {}", if by_rust { "rust" } else { "model" });
     println!("file {}", dash(to_hex(file)));
-    println!("settings {} {} {}", settings.width, settings.newline_cost, settings.policy);
+    println!("settings {} {} {} {}", settings.width, settings.newline_cost, settings.policy, settings.rule);
     println!("sizes {}", words(&sizes.list().map(u64::from)));
     println!("limits {} {}", limits.work, limits.visits);
     match &answer {
@@ -153,8 +178,8 @@ fn show(name: &str, file: &[u8], settings: &Settings, sizes: &Sizes, limits: &Li
     println!("counts {}\n", words(&counts(&answer).list()));
 }
 
-/// Inputs of the program `page` and its outputs, by the model: the inputs of docs/DECISIONS.md 29, then random ones. Two lines each,
-/// `input HEX` and `output HEX`, `-` where it is empty; `input REPEAT n HEX` is n times the byte.
+/// Inputs of the program `page` and its outputs, by the model: the inputs of docs/DECISIONS.md 29, then random ones; then both for rule 2.
+/// Two lines each, `input HEX` and `output HEX`, `-` where it is empty; `input REPEAT n HEX` is n times the byte.
 pub fn print_page(seed: u64) {
     let example = "01 50 00 00 00 45 01 00 00 00 02 00 00 00 01 00 00 00 00 01 03 02 00 00 00 02 00 00 00 61 62 03 01 00 00 00 01 00 00 00 20";
     let fixed = [
@@ -192,28 +217,38 @@ pub fn print_page(seed: u64) {
     for length in [32_768usize, 32_769] {
         println!("input REPEAT {length} 00\noutput {}\n", to_hex(&model::page(&vec![0; length])));
     }
-    let mut left = 60;
-    for index in 0.. {
-        let mut rng = Rng::of_case(seed, index);
-        let rng = &mut rng;
-        let (tables, profile) = crate::accepted(rng, &mut Tally::default());
-        let settings = generate::settings(rng, profile.is_some_and(|profile| profile.extreme()));
-        let mut input = vec![1 | u8::from(settings.newline_cost > 0) << 1 | (settings.policy as u8) << 2];
-        input.extend(settings.width.to_le_bytes());
-        if settings.newline_cost > 0 {
-            input.extend(settings.newline_cost.to_le_bytes());
-        }
-        input.extend(model::file::bytes(&tables));
-        if rng.chance(4) {
-            input = generate::damage::file(rng, &input);
-        }
-        if input.len() > LONGEST_FILE || model::page(&input).len() > 2 * LONGEST_PAGE {
-            continue;
-        }
+    let short = |input: &Vec<u8>| input.len() <= LONGEST_FILE[0] && model::page(input).len() <= 2 * LONGEST_PAGE;
+    for input in (0..).map(|index| page_input(seed, index, 1)).filter(short).take(60) {
         show(&input);
-        left -= 1;
-        if left == 0 {
-            return;
-        }
+    }
+    for input in ["10", "0c", "09 50000000"] {
+        show(&common::from_hex(input).expect("hexadecimal"));
+    }
+    // `abc`; and one line or two, by the rule.
+    show(&[&[9, 1, 0, 0, 0], &fixed::abc()[..]].concat());
+    for map in [1, 9] {
+        show(&[&[map, 1, 0, 0, 0], &fixed::one_or_two()[..]].concat());
+    }
+    let charged = |input: &Vec<u8>| {
+        let output = model::page(input);
+        let overflow = output.split(|byte| *byte == b' ').nth(2);
+        overflow.is_some_and(|digits| digits.iter().any(|digit| *digit != b'0'))
+    };
+    let inputs = (0..).map(|index| page_input(seed ^ SECOND, index, 2)).filter(short);
+    for input in inputs.enumerate().filter(|(at, input)| at % 20 == 0 || charged(input)).take(8) {
+        show(&input.1);
+    }
+}
+
+/// A setting and a document, one in four damaged.
+fn page_input(seed: u64, index: u64, rule: u32) -> Vec<u8> {
+    let rng = &mut Rng::of_case(seed, index);
+    let (tables, settings) = drawn(rng, rule);
+    let file = &model::file::bytes(&tables);
+    let input = Call { file, settings, sizes: Sizes::PAGE, limits: Limits::PAGE }.input();
+    if rng.chance(4) {
+        generate::damage::file(rng, &input)
+    } else {
+        input
     }
 }

@@ -84,6 +84,7 @@ fn smaller(subject: &Subject) -> Vec<Subject> {
         with(&|next| next.settings.newline_cost = cost);
     }
     with(&|next| next.settings.policy = 0);
+    with(&|next| next.settings.rule = 1);
     list
 }
 
@@ -102,7 +103,8 @@ fn weight(subject: &Subject) -> (usize, u128) {
         + tables.texts.iter().map(|text| u128::from(text.width)).sum::<u128>()
         + u128::from(subject.settings.width)
         + u128::from(subject.settings.newline_cost)
-        + u128::from(subject.settings.policy);
+        + u128::from(subject.settings.policy)
+        + u128::from(subject.settings.rule);
     (bytes(tables).len(), rest)
 }
 

@@ -59,7 +59,7 @@ fn is_text(comparer: &mut Comparer, bytes: &[u8]) -> bool {
     let tables = Tables { nodes: vec![Node::of(kind::TEXT, 1, 0)], texts, ..Tables::default() };
     crate::refused_alike(comparer, &tables);
     let file = model::file::bytes(&tables);
-    let settings = Settings { width: 80, newline_cost: 1, policy: 0 };
+    let settings = Settings { width: 80, newline_cost: 1, policy: 0, rule: 1 };
     let call = Call { file: &file, settings, sizes: Sizes::PAGE, limits: LIMITS };
     crate::damaged_file(comparer, &call);
     let number = model::file::read(&file).err().unwrap_or(0);

@@ -43,8 +43,12 @@ pub enum Profile {
     Wide,
     /// Lines of widths near 2^32, a few times doubled: overflow past 2^64 on pages that can be made.
     Heavy,
-    /// One or two parts of which a column, an indent, an overflow or a burden comes near the end of its width. Not among `ALL`: drawn apart.
-    Near,
+    /// One or two parts of which a column, an indent, an overflow under this rule or a burden comes near the end of its width. Not among
+    /// `ALL`: drawn apart.
+    Near(u32),
+    /// Choices between lines of different widths, of which a narrow page takes others under rule 2 than under rule 1. Not among `ALL`: drawn
+    /// apart.
+    Lines,
 }
 
 impl Profile {
@@ -62,7 +66,7 @@ impl Profile {
     ];
 
     pub fn extreme(self) -> bool {
-        matches!(self, Profile::Extreme | Profile::Doubling | Profile::Heavy | Profile::Near)
+        matches!(self, Profile::Extreme | Profile::Doubling | Profile::Heavy | Profile::Near(_))
     }
 }
 
@@ -75,7 +79,8 @@ pub fn tables(rng: &mut Rng, profile: Profile) -> Tables {
         Profile::Fill => build.fill(rng),
         Profile::Wide => build.wide(rng),
         Profile::Heavy => build.heavy(rng),
-        Profile::Near => build.near(rng),
+        Profile::Near(rule) => build.near(rng, rule),
+        Profile::Lines => build.lines(rng),
         _ => {
             let most = match profile {
                 Profile::Small => 12,
@@ -108,7 +113,7 @@ struct Build {
 
 impl Build {
     fn texts(&mut self, rng: &mut Rng) {
-        let count = rng.within(1, 6);
+        let count = if self.profile == Profile::Lines { 1 } else { rng.within(1, 6) };
         self.tables.space = rng.within(0, count - 1);
         for index in 0..count {
             let text = if index == self.tables.space { Text { width: 1, bytes: vec![32] } } else { self.text(rng) };
@@ -258,8 +263,8 @@ impl Build {
         }
     }
 
-    fn near(&mut self, rng: &mut Rng) {
-        let mut parts: Vec<u32> = (0..rng.within(1, 2)).map(|_| self.part_near(rng)).collect();
+    fn near(&mut self, rng: &mut Rng, rule: u32) {
+        let mut parts: Vec<u32> = (0..rng.within(1, 2)).map(|_| self.part_near(rng, rule)).collect();
         let leaf = self.leaf(rng);
         parts.insert(rng.index(parts.len() + 1), leaf);
         match rng.below(5) {
@@ -269,7 +274,7 @@ impl Build {
         };
     }
 
-    fn part_near(&mut self, rng: &mut Rng) -> u32 {
+    fn part_near(&mut self, rng: &mut Rng, rule: u32) -> u32 {
         match rng.below(4) {
             0 => {
                 let text = self.tables.texts.len() as u32;
@@ -286,7 +291,8 @@ impl Build {
             2 => {
                 let line = self.push(Node::of(kind::HARD_LINE, 0, 0));
                 let nest = self.push(Node::of(kind::NEST, u32::MAX - rng.within(0, 1), line));
-                let levels = rng.within(64, 68);
+                // A line is charged some 2^64, or under rule 2 some 2^32.
+                let levels = rng.within(64, 68) + if rule == 2 { 32 } else { 0 };
                 self.doubled(rng, nest, levels)
             }
             _ => {
@@ -300,6 +306,43 @@ impl Build {
                 }
                 node
             }
+        }
+    }
+
+    fn lines(&mut self, rng: &mut Rng) {
+        let line = self.push(Node::of(kind::HARD_LINE, 0, 0));
+        let parts = (0..rng.within(1, 3))
+            .map(|_| {
+                let (first, second) = (self.part_of_lines(rng, line), self.part_of_lines(rng, line));
+                self.push(Node::of(kind::CHOICE, first, second))
+            })
+            .collect();
+        let kind = if rng.chance(4) { kind::FILL } else { kind::SEQ };
+        self.sequence(rng, kind, parts);
+    }
+
+    /// One to three lines.
+    fn part_of_lines(&mut self, rng: &mut Rng, line: u32) -> u32 {
+        let mut parts = Vec::new();
+        for place in 0..rng.within(1, 3) {
+            if place > 0 {
+                parts.push(line);
+            }
+            let width = rng.within(1, 9);
+            let text = Text { width, bytes: vec![b'0' + width as u8; width as usize] };
+            let texts = &mut self.tables.texts;
+            let at = texts.iter().position(|other| *other == text).unwrap_or(texts.len());
+            if at == texts.len() {
+                texts.push(text);
+            }
+            parts.push(self.push(Node::of(kind::TEXT, at as u32, 0)));
+        }
+        let lines = self.sequence(rng, kind::SEQ, parts);
+        match rng.below(6) {
+            0 => self.push(Node::of(kind::ALIGN, lines, 0)),
+            1 => self.push(Node::of(kind::NEST, rng.within(1, 3), lines)),
+            2 => self.push(Node::of(kind::PENALTY, rng.within(1, 3), lines)),
+            _ => lines,
         }
     }
 

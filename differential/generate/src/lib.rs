@@ -64,6 +64,18 @@ impl Rng {
     }
 }
 
+/// The rule of a document's calls: 2 for one in three. It has a generator of its own, so the documents of a seed are what they were
+/// before there was a rule.
+pub fn rule(seed: u64, case: u64) -> u32 {
+    1 + u32::from(Rng::of_case(seed ^ 1 << 62, case).chance(3))
+}
+
+/// Of a narrow page, under rule 2.
+pub fn narrow(rng: &mut Rng) -> Settings {
+    Settings { width: rng.within(1, 6), newline_cost: rng.pick(&[0, 0, 1, 3]), policy: rng.within(0, 1), rule: 2 }
+}
+
+/// Under rule 1.
 pub fn settings(rng: &mut Rng, extreme: bool) -> Settings {
     let width = match rng.below(if extreme { 8 } else { 6 }) {
         0 => 1,
@@ -79,5 +91,5 @@ pub fn settings(rng: &mut Rng, extreme: bool) -> Settings {
         4 => rng.within(0, 200),
         _ => rng.extreme(),
     };
-    Settings { width, newline_cost, policy: rng.within(0, 1) }
+    Settings { width, newline_cost, policy: rng.within(0, 1), rule: 1 }
 }

@@ -42,7 +42,7 @@ impl Reason {
 
 /// The whole answer for the bytes of a file.
 pub fn answer(file: &[u8], settings: &Settings, sizes: &Sizes, limits: &Limits) -> Answer {
-    if settings.width == 0 || settings.policy > 1 {
+    if settings.width == 0 || settings.policy > 1 || !matches!(settings.rule, 1 | 2) {
         return Err(Refusal::early(1));
     }
     let tables = file::read(file).map_err(Refusal::early)?;

@@ -1,4 +1,4 @@
-//! The program `page`: its output for its input (document 01, "Calls"; docs/DECISIONS.md 29).
+//! The program `page`: its output for its input (document 01, "Calls"; document 02, change 5; docs/DECISIONS.md 29).
 
 use common::{Limits, Settings, Sizes};
 
@@ -27,7 +27,7 @@ fn settings(input: &[u8]) -> Result<(Settings, &[u8]), Number> {
         return Err(file::LIMIT);
     }
     let (map, mut rest) = input.split_first().ok_or(file::SHORT)?;
-    if *map > 7 {
+    if *map > 15 {
         return Err(file::FORM);
     }
     let mut field = |bit: u32| {
@@ -41,6 +41,7 @@ fn settings(input: &[u8]) -> Result<(Settings, &[u8]), Number> {
             value => Ok(value),
         }
     };
-    let settings = Settings { width: field(0)?, newline_cost: field(1)?, policy: u32::from(map >> 2 & 1) };
+    let (policy, rule) = (u32::from(map >> 2 & 1), 1 + u32::from(map >> 3 & 1));
+    let settings = Settings { width: field(0)?, newline_cost: field(1)?, policy, rule };
     Ok((settings, rest))
 }

@@ -97,19 +97,23 @@ impl Solver<'_, '_> {
         value.map_or_else(|| self.run.stop(reason.number(), 0), Ok)
     }
 
-    /// over(c)².
-    fn square(&self, column: u32) -> u128 {
+    /// Of a line that ends at the column: over(c)² under rule 1, over(c) under rule 2.
+    fn charge(&self, column: u32) -> u128 {
         let over = u128::from(column.saturating_sub(self.run.settings.width));
-        over * over
+        match self.run.settings.rule {
+            1 => over * over,
+            2 => over,
+            other => unreachable!("rule {other}"),
+        }
     }
 
     fn text(&mut self, column: u32, width: u32) -> Result<(Cost, u32), Refusal> {
         let end = self.domain(column.checked_add(width), Reason::Column)?;
-        Ok((Cost { overflow: self.square(end) - self.square(column), burden: 0 }, end))
+        Ok((Cost { overflow: self.charge(end) - self.charge(column), burden: 0 }, end))
     }
 
     fn newline(&self, indent: u32) -> Cost {
-        Cost { overflow: self.square(indent), burden: u64::from(self.run.settings.newline_cost) }
+        Cost { overflow: self.charge(indent), burden: u64::from(self.run.settings.newline_cost) }
     }
 
     fn sum(&mut self, left: Cost, right: Cost) -> Result<Cost, Refusal> {

@@ -1,4 +1,4 @@
-//! Answers for one prepared file: `oracle [--width W] [--newline N] [--policy P] [--sizes 9 numbers with commas | page]
+//! Answers for one prepared file under rule 1, the one that the Rust has: `oracle [--width W] [--newline N] [--policy P] [--sizes 9 numbers with commas | page]
 //! [--work-limit L] [--visit-limit L]`, the file in hexadecimal on standard input. Also `oracle hash NODE COLUMN INDENT`,
 //! `oracle slots N`, `oracle present COLUMN:OVERFLOW:BURDEN ...`; and `oracle page`, the program's output (escaped) for its input in
 //! hexadecimal, by the model.
@@ -19,7 +19,7 @@ fn usage(message: &str) -> ! {
     eprintln!(
         "usage: oracle [--width 80] [--newline 1] [--policy 0] [--sizes large | page | most | n,n,n,n,n,n,n,n,n]"
     );
-    eprintln!("              [--work-limit n] [--visit-limit n] [--raw] < hexadecimal");
+    eprintln!("              [--work-limit n] [--visit-limit n] [--raw] < hexadecimal   (under rule 1, the one that the Rust has)");
     eprintln!("       oracle hash NODE COLUMN INDENT | oracle slots N | oracle present COLUMN:OVERFLOW:BURDEN .. | oracle page < hex");
     exit(2)
 }
@@ -83,7 +83,7 @@ fn run() -> i32 {
         }
         _ => {}
     }
-    let mut settings = Settings { width: 80, newline_cost: 1, policy: 0 };
+    let mut settings = Settings { width: 80, newline_cost: 1, policy: 0, rule: 1 };
     let mut given = Sizes::LARGE;
     let mut limits = Limits::NONE;
     let mut raw = false;

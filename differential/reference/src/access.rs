@@ -158,6 +158,7 @@ fn number(resource: WorkspaceResource) -> u32 {
 }
 
 fn options(settings: &Settings) -> RenderOptions {
+    assert_eq!(settings.rule, 1, "the reference charges squares and knows no other rule");
     let policy = match settings.policy {
         0 => IndentPolicy::Preserve,
         _ => IndentPolicy::ClampToWidthMinusOne,

@@ -3,6 +3,9 @@ use borrow.Author.Needs.{needs}
 use Rattle.solve_node.proofs.newline_candidate.Statement.{statement}
 use Rattle.solve_node.proofs.newline_candidate.Tie as tie
 
+cost-model-requires : tie.Need-cost-model-requires
+cost-model-requires c κs = search needs
+
 newline-requires : tie.Need-newline-requires
 newline-requires c κs = search needs
 
@@ -19,12 +22,13 @@ returns : tie.Need-returns
 returns c = λ P. newline-has-place _ _ _ (c .before .before .before .newline .ensures .1) (c .before .reason .given .1)
 
 returns-2 : tie.Need-returns-2
-returns-2 c = λ P. newline-is (c .before .before .before .before .before .args .options .width) (c .before .before .before .before .before .args .options .«newline_cost») (c .before .before .before .before .before .args .options .policy) (c .before .before .before .before .before .args .indent) P _ _ _ (c .before .before .before .before .newline .ensures .1) (c .before .before .cost .given .1) (c .scratch-candidate .ensures)
+returns-2 c = λ P. newline-is (c .before .before .before .before .before .before .args .options) (c .before .before .before .before .before .before .args .indent) P _ _ _ (rw (c .before .before .before .before .before .cost-model .ensures) at (c .before .before .before .before .newline .ensures .1)) (c .before .before .cost .given .1) (c .scratch-candidate .ensures)
 
 pub newline-candidate-spec : {M : Type 1} → statement M
 newline-candidate-spec =
     tie.close
     (tie.spec
+    cost-model-requires
     newline-requires
     enum-known-reason
     enum-known-cost

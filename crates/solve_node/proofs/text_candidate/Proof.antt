@@ -5,6 +5,9 @@ use borrow.Author.Needs.{needs}
 use Rattle.solve_node.proofs.text_candidate.Statement.{statement}
 use Rattle.solve_node.proofs.text_candidate.Tie as tie
 
+cost-model-requires : tie.Need-cost-model-requires
+cost-model-requires c κs = search needs
+
 text-requires : tie.Need-text-requires
 text-requires c κs = search needs
 
@@ -15,21 +18,22 @@ enum-known-cost : tie.Need-enum-known-cost
 enum-known-cost c = search needs
 
 add-last : tie.Need-add-last
-add-last c = let h = text-small (c .before .before .before .before .args .options .width) (c .before .before .before .before .args .column) (c .before .before .before .before .args .width) _ _ (c .before .before .before .text .ensures) (c .before .cost .given .1) in omega (arith, h)
+add-last c = let h = text-small (c .before .before .before .before .before .args .options) (c .before .before .before .before .before .args .column) (c .before .before .before .before .before .args .width) _ _ (rw (c .before .before .before .before .cost-model .ensures) at (c .before .before .before .text .ensures)) (c .before .cost .given .1) in omega (arith, h)
 
 scratch-candidate-requires : tie.Need-scratch-candidate-requires
 scratch-candidate-requires c κs = search needs
 
 returns : tie.Need-returns
-returns c = λ indent node. text-fails (c .before .before .before .before .args .options .width) (c .before .before .before .before .args .options .«newline_cost») (c .before .before .before .before .args .options .policy) (memo-key node (c .before .before .before .before .args .column) indent) (c .before .before .before .before .args .text) (c .before .before .before .before .args .width) _ _ (c .before .before .before .text .ensures) (c .before .reason .given .1)
+returns c = λ indent node. text-fails (c .before .before .before .before .before .args .options) (memo-key node (c .before .before .before .before .before .args .column) indent) (c .before .before .before .before .before .args .text) (c .before .before .before .before .before .args .width) _ _ (rw (c .before .before .before .before .cost-model .ensures) at (c .before .before .before .text .ensures)) (c .before .reason .given .1)
 
 returns-2 : tie.Need-returns-2
-returns-2 c = λ indent node. text-leaf (c .before .before .before .before .before .args .options .width) (c .before .before .before .before .before .args .options .«newline_cost») (c .before .before .before .before .before .args .options .policy) (memo-key node (c .before .before .before .before .before .args .column) indent) (c .before .before .before .before .before .args .text) (c .before .before .before .before .before .args .width) _ _ _ (c .before .before .before .before .text .ensures) (c .before .before .cost .given .1) (c .scratch-candidate .ensures)
+returns-2 c = λ indent node. text-leaf (c .before .before .before .before .before .before .args .options) (memo-key node (c .before .before .before .before .before .before .args .column) indent) (c .before .before .before .before .before .before .args .text) (c .before .before .before .before .before .before .args .width) _ _ _ (rw (c .before .before .before .before .before .cost-model .ensures) at (c .before .before .before .before .text .ensures)) (c .before .before .cost .given .1) (c .scratch-candidate .ensures)
 
 pub text-candidate-spec : {M : Type 1} → statement M
 text-candidate-spec =
     tie.close
     (tie.spec
+    cost-model-requires
     text-requires
     enum-known-reason
     enum-known-cost

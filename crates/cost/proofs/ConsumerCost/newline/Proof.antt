@@ -15,7 +15,7 @@ cast-t4 c = search needs
 returns : tie.Need-returns
 returns c =
     let e = ap cost (low-only _ _ _ (c .before .charge .ensures)) in
-    (e ∙ newline-fits (c .before .before .args .model .width) (c .before .before .args .model .«newline_cost») (c .before .before .args .indent) (omega arith) (omega arith), e)
+    (e ∙ newline-fits (c .before .before .args .model .rule) (c .before .before .args .model .width) (c .before .before .args .model .«newline_cost») (c .before .before .args .indent) (omega arith) (omega arith), e)
 
 pub newline-spec : {M : Type 1} → statement M
 newline-spec = tie.close (tie.spec charge-requires cast-t4 returns)
