@@ -76,6 +76,23 @@ newline-most-excess : newline-outcome 2 1 4294967295 4294967295 ≡ fits (cost (
 unfolding newline-outcome within charged
 newline-most-excess = refl
 
+-- so an overflow past its width takes more doublings of it under rule 2: 97 for 65
+doubled-64 : within (cost (2 ^ 64 * charged 1 1 4294967295) 0) ≡ fits (cost (2 ^ 64 * charged 1 1 4294967295) 0)
+unfolding within charged
+doubled-64 = refl
+
+doubled-65 : within (cost (2 ^ 65 * charged 1 1 4294967295) 0) ≡ past Overflow
+unfolding within charged
+doubled-65 = refl
+
+doubled-96 : within (cost (2 ^ 96 * charged 2 1 4294967295) 0) ≡ fits (cost (2 ^ 96 * charged 2 1 4294967295) 0)
+unfolding within charged
+doubled-96 = refl
+
+doubled-97 : within (cost (2 ^ 97 * charged 2 1 4294967295) 0) ≡ past Overflow
+unfolding within charged
+doubled-97 = refl
+
 -- the overflow is looked at first
 both-past : within (cost (2 ^ 128) (2 ^ 64)) ≡ past Overflow
 unfolding within

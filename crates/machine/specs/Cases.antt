@@ -290,15 +290,6 @@ lines-65 : tried 1 0 0 (lines-doc 65) vast ≡ refusal 26 0 (counted 391 128 133
 unfolding tried
 lines-65 = refl
 
--- under rule 2 it takes more sharing: 96 doublings have their place, and the plan is walked
-lines-97 : under 2 1 0 0 (lines-doc 97) vast ≡ refusal 26 0 (counted 583 192 197 194 0 1 196 0 0)
-unfolding under
-lines-97 = refl
-
-lines-96 : under 2 1 0 0 (lines-doc 96) (bounds 256 256 256 16 256 256 8 64 8 1000 0) ≡ refusal 22 0 (counted 578 190 195 193 0 1 195 193 0)
-unfolding under
-lines-96 = refl
-
 -- 12
 ab-work-1 : tried 80 1 0 ab-doc (bounds 64 64 64 16 64 32 8 64 8 1 1000) ≡ refusal 12 0 (counted 1 0 1 0 0 0 0 0 0)
 unfolding tried
