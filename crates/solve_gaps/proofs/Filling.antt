@@ -1,7 +1,7 @@
 -- Laws of a Fill's gaps.
 use mathlib.Core.Path.{_≡_, sym, ap, _∙_, subst}
 use mathlib.Core.Option.{none, some}
-use Prim.Native.Nat.{ℕ, suc, _+_, _<_, _^_}
+use Prim.Native.Nat.{ℕ, suc, _+_}
 use native.Mathlib.Omega.{arith}
 use lib.ListN.{getD}
 use Rattle.cost.specs.Charge.{text-cost}
@@ -35,9 +35,6 @@ use Rattle.solve_node.specs.declared.LeafCandidate.{LeafCandidate}
 use Rattle.solve_node.specs.declared.LeafCandidate.the-variants.{Candidate as ACandidate, Failed as NoPlace}
 use Rattle.solve_node.specs.Begun.{leaf-scratch}
 use Rattle.solve_gaps.specs.Gaps.{spacing, bounding, gap}
-
-pub space-small : (o : RenderOptions) (column : ℕ) (r : Costed) (k : ConsumerCost) → outcome r ≡ text-outcome (o .rule) (o .width) column 1 → r ≡ Is k → column + 1 < 2 ^ 32
-space-small o column r k e f = text-fine o column 1 r k e f .small
 
 pub space-stop : {b : Bounds} (o : RenderOptions) (column indent : ℕ) (P : Prepared) (s : Registers) (r : Costed) (y : Reason) (S : State) (f : Registers → Got) → outcome r ≡ text-outcome (o .rule) (o .width) column 1 → r ≡ Failed y
     → Meets b (counts s) (bounding (rules o) P column indent S) (Stop (Domain y) 0 s) f

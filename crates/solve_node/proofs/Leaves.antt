@@ -3,7 +3,7 @@ use mathlib.Core.Path.{_≡_, refl, sym, ap, _∙_, subst}
 use mathlib.Core.Bool.{Bool, true, false}
 use mathlib.Core.Option.{some}
 use mathlib.Core.List.{List, []}
-use Prim.Native.Nat.{ℕ, zero, suc, _+_, _<_, _^_}
+use Prim.Native.Nat.{ℕ, zero, suc, _+_}
 use native.Mathlib.Omega.{arith}
 use borrow.Author.Tests.{eqb-true, eqb-false}
 use lib.Dec.{eqb}
@@ -68,9 +68,6 @@ pub text-leaf : (o : RenderOptions) (q : MemoKey) (t : TextId) (width : ℕ) (r 
 text-leaf o q t width r k c e f g =
     let fine = text-fine o (q .column) width r k e f in
     record { by = λ P b j S. rw (g, fine .is) (column-go (q .column + width) _ (fine .small)) }
-
-pub text-small : (o : RenderOptions) (column width : ℕ) (r : Costed) (k : ConsumerCost) → outcome r ≡ text-outcome (o .rule) (o .width) column width → r ≡ Is k → column + width < 2 ^ 32
-text-small o column width r k e f = text-fine o column width r k e f .small
 
 pub text-fails : (o : RenderOptions) (q : MemoKey) (t : TextId) (width : ℕ) (r : Costed) (y : Reason) → outcome r ≡ text-outcome (o .rule) (o .width) (q .column) width → r ≡ Failed y → Leafed (rules o) (Text t width) q (NoPlace y)
 text-fails o q t width r y e f = record { by = λ P b s S g. text-stop s o (q .column) width r y _ g e f }

@@ -2,7 +2,8 @@ use mathlib.Core.Path.{refl}
 use native.Mathlib.Omega.{arith}
 use Rattle.solve_workspace.specs.Lent.{regs}
 use Rattle.solve_workspace.specs.Stores.{halted-meets, halted-keeps}
-use Rattle.solve_gaps.proofs.Filling.{space-small, space-stop, space-go}
+use Rattle.solve_workspace.specs.Costs.{text-fine}
+use Rattle.solve_gaps.proofs.Filling.{space-stop, space-go}
 use borrow.Author.Needs.{needs}
 use Rattle.solve_gaps.proofs.boundary.Statement.{statement}
 use Rattle.solve_gaps.proofs.boundary.Tie as tie
@@ -20,7 +21,7 @@ enum-known-cost : tie.Need-enum-known-cost
 enum-known-cost c = search needs
 
 add-last : tie.Need-add-last
-add-last c = let h = space-small (c .before .before .before .before .before .before .before .args .options) (c .before .before .before .before .before .before .before .args .column) _ _ (rw (c .before .before .before .before .cost-model .ensures) at (c .before .before .before .text .ensures)) (c .before .cost .given .1) in omega (arith, h)
+add-last c = let h = text-fine (c .before .before .before .before .before .before .before .args .options) (c .before .before .before .before .before .before .before .args .column) 1 _ _ (rw (c .before .before .before .before .cost-model .ensures) at (c .before .before .before .text .ensures)) (c .before .cost .given .1) in omega (arith, h .small)
 
 scratch-candidate-requires : tie.Need-scratch-candidate-requires
 scratch-candidate-requires c κs = search needs

@@ -1,6 +1,7 @@
 use native.Mathlib.Omega.{arith}
 use Rattle.machine.specs.Model.{memo-key}
-use Rattle.solve_node.proofs.Leaves.{text-leaf, text-small, text-fails}
+use Rattle.solve_workspace.specs.Costs.{text-fine}
+use Rattle.solve_node.proofs.Leaves.{text-leaf, text-fails}
 use borrow.Author.Needs.{needs}
 use Rattle.solve_node.proofs.text_candidate.Statement.{statement}
 use Rattle.solve_node.proofs.text_candidate.Tie as tie
@@ -18,7 +19,7 @@ enum-known-cost : tie.Need-enum-known-cost
 enum-known-cost c = search needs
 
 add-last : tie.Need-add-last
-add-last c = let h = text-small (c .before .before .before .before .before .args .options) (c .before .before .before .before .before .args .column) (c .before .before .before .before .before .args .width) _ _ (rw (c .before .before .before .before .cost-model .ensures) at (c .before .before .before .text .ensures)) (c .before .cost .given .1) in omega (arith, h)
+add-last c = let h = text-fine (c .before .before .before .before .before .args .options) (c .before .before .before .before .before .args .column) (c .before .before .before .before .before .args .width) _ _ (rw (c .before .before .before .before .cost-model .ensures) at (c .before .before .before .text .ensures)) (c .before .cost .given .1) in omega (arith, h .small)
 
 scratch-candidate-requires : tie.Need-scratch-candidate-requires
 scratch-candidate-requires c κs = search needs
