@@ -4,7 +4,7 @@ differential/differential/src/sample.rs) by part 4, and by part 2 where the layo
 
     fromrule.py FILE ..        cases in the sample's form
     fromrule.py --page FILE .. inputs and outputs of the program `page`
-    fromrule.py HEX W N P R    one file with width, newline cost, policy, rule: page, spans, cost, counts at the sizes of `page`
+    fromrule.py HEX W N P R    one file with width, newline cost, policy, rule: page, spans, cost, counts, needs at the sizes of `page`
     fromrule.py --rule ../docs/RULE.md [--page-program PATH] [--calls-program PATH]
                                all that the page itself works out, its annex and check numbers (rulepage.py). What `page` can be
                                asked of it is asked of the first program too, all calls with their sizes of the second (test_calls)
@@ -282,11 +282,13 @@ class Machine(Rule):
         super().__init__(file, w, newline, policy, rule)
         self.sizes, self.work_limit, self.visit_limit = dict(zip(SIZES, sizes)), work_limit, visit_limit
         self.count = dict.fromkeys(COUNTS, 0)
+        self.needs = dict.fromkeys(SIZES, 0)
         self.tasks, self.results, self.pending, self.memo, self.kept, self.plans, self.frontier = [], [], [], {}, [], [], []
         self.steps = []  # (task, its values, work before and after it), for the tables of 4.6
 
     def need(self, kind, n):
         refuse_if(n > self.sizes[kind], 13 + SIZES.index(kind), n)
+        self.needs[kind] = max(self.needs[kind], n)
 
     def test_work(self, other):
         refuse_if(self.count['work'] >= self.work_limit, 12)
@@ -487,7 +489,8 @@ class Machine(Rule):
                 self.need('output', len(page) + len(t))
                 page += t
             elif plan[0] == 'line':
-                refuse_if(len(page) + plan[1] + 1 > self.sizes['output'], 20, self.sizes['output'] + 1)
+                # one by one: the first that has no room refuses
+                self.need('output', min(len(page) + plan[1], self.sizes['output']) + 1)
                 page += b'\n' + b' ' * plan[1]
             elif plan[0] == 'join':
                 push(plan[2])
@@ -511,7 +514,7 @@ class Machine(Rule):
 
 
 def answer(data, settings, sizes, limits, start=0):
-    """(page, spans, cost) or (number, needed), and the counts."""
+    """(page, spans, cost) or (number, needed); the counts; the needs, None with a refusal."""
     w, newline, policy, rule = settings
     counts = dict.fromkeys(COUNTS, 0)
     try:
@@ -526,9 +529,9 @@ def answer(data, settings, sizes, limits, start=0):
             answer.by_rule += 1
         except Many:
             pass
-        return said, counts
+        return said, counts, m.needs
     except Refused as r:
-        return (r.number, r.needed), counts
+        return (r.number, r.needed), counts, None
 
 
 answer.by_rule = 0
@@ -543,7 +546,7 @@ def program(data):
         refuse_if(m > 15, 3)
         w = r.field(bit(m, 0))
         newline = r.field(bit(m, 1))
-        said, counts = answer(data, (w, newline, int(bit(m, 2)), 2 if bit(m, 3) else 1), *PAGE, start=r.at)
+        said, counts, _ = answer(data, (w, newline, int(bit(m, 2)), 2 if bit(m, 3) else 1), *PAGE, start=r.at)
     except Refused as r:
         said = r.number, 0
     if len(said) == 2:
@@ -552,14 +555,15 @@ def program(data):
     return b'page %d %032x %d %d\n' % (counts['work'], cost[0], cost[1], len(spans)) + page + b'\n'
 
 
-def shown(said, counts):
+def shown(said, counts, needs):
     if len(said) == 2:
         lines = ['refused %d %d' % said]
     else:
         page, spans, cost = said
         lines = ['page ' + (page.hex() or '-'), 'cost %032x %d' % cost]
         lines += ['span %d %d %d %s' % (a, s, e, '-' if up is None else up) for a, s, e, up in spans]
-    return lines + ['counts ' + ' '.join(str(counts[k]) for k in COUNTS)]
+    lines.append('counts ' + ' '.join(str(counts[k]) for k in COUNTS))
+    return lines + ([] if needs is None else ['needs ' + ' '.join(str(needs[k]) for k in SIZES)])
 
 
 def unhex(text):

@@ -7,8 +7,9 @@ record less than its size says, which is refused by 1.
 """
 import collections, os, shutil, struct, subprocess, sys, tempfile
 
-# The interpreter stops after 10,000,000 steps: calls of more work or visits are left out, and so many are made in one run.
-MOST, AT_ONCE = 1000, 40
+# The interpreter stops after 10,000,000 steps: calls of more work or visits are left out, and so many are made in one run, of so much work
+# together.
+MOST, AT_ONCE, WORK_AT_ONCE = 1000, 40, 3000
 HERE = os.path.dirname(os.path.abspath(__file__))
 LISTED = 'test_records: file_tables cost stats spans solve_workspace printer io libc\n'
 
@@ -19,7 +20,7 @@ def sample():
         said = {line.split()[0]: line.split()[1:] for line in lines}
         words = [int(word) for name in ('settings', 'sizes', 'limits') for word in said[name]]
         file = b'' if said['file'] == ['-'] else bytes.fromhex(said['file'][0])
-        answer = [line for line in lines if line.split()[0] in ('page', 'refused', 'cost', 'span', 'counts')]
+        answer = [line for line in lines if line.split()[0] in ('page', 'refused', 'cost', 'span', 'counts', 'needs')]
         work, visits = int(said['counts'][0]), int(said['counts'][9])
         if work <= MOST and visits <= MOST:
             yield words, file, answer
@@ -36,6 +37,18 @@ def kind(answer):
     if answer[0].startswith('refused'):
         return int(answer[0].split()[1])
     return -1 if answer[2].startswith('span') else 0
+
+def parts(every):
+    """The calls of each run."""
+    part, work = [], 0
+    for call in every:
+        own = int([line for line in call[2] if line.startswith('counts')][0].split()[1])
+        if len(part) == AT_ONCE or part and work + own > WORK_AT_ONCE:
+            yield part
+            part, work = [], 0
+        part.append(call)
+        work += own
+    yield part
 
 def run(tree, part):
     """Whether the program writes the answers of these calls."""
@@ -57,12 +70,11 @@ def main():
         shutil.copy(HERE + '/records/main.rt.txt', tree + '/crates/test_records/src/main.rt')
         with open(HERE + '/../crates.txt') as listed, open(tree + '/crates.txt', 'w') as copy:
             copy.write(listed.read() + LISTED)
-        parts = [every[at:at + AT_ONCE] for at in range(0, len(every), AT_ONCE)]
-        differ = sum(not run(tree, part) for part in parts)
+        differ = [not run(tree, part) for part in parts(every)]
     kinds = collections.Counter(kind(answer) for _, _, answer in every)
     names = {-1: 'page with spans', 0: 'page without'}
     print('%d calls of printer::render, four ways each;' % len(every), ', '.join('%s: %d' % (names.get(k, k), n) for k, n in sorted(kinds.items())))
-    print('%d differences, in %d runs' % (differ, len(parts)))
-    return int(differ > 0)
+    print('%d differences, in %d runs' % (sum(differ), len(differ)))
+    return int(any(differ))
 
 sys.exit(main())

@@ -1,9 +1,14 @@
-"""Reads docs/RULE.md and works out again what it works out: the worked files of part 3 (pages, costs, spans), the steps, counts and
+"""Reads docs/RULE.md and works out again what it works out: the worked files of part 3 (pages, costs, spans), the steps, counts, needs and
 refusals of part 4, the inputs of part 5, the annex and every check number. `fromrule.py --rule` runs it.
 
 What it looks for is the head of a table, and the words `file`, `input`, `output` and `check` of an indented block. A file in a table
 is made of parts with `and` between them: nothing; `hexadecimal`; 3.4 (the file of that section); 3.4 with `hexadecimal` as line 2 (of
 its table); 32,769 bytes `hexadecimal`.
+
+A table of pages, counts or needs begins with `file`, `W`, `newline cost`, `policy` and may go on with `rule`; then come the columns of
+one of the three, the needs under the names of the sizes. A row of needs is tried too: the same page at just these sizes, and with one of
+them smaller the refusal of that kind. A table of refusals begins with `no.`, `file`; in a column `but` stands what is other than usual
+(`frontier 1, W 3`).
 """
 import re
 import subprocess
@@ -14,6 +19,7 @@ from fromrule import COUNTS, PAGE, SIZES
 HEX = re.compile(r'`([0-9a-f]{2}(?: [0-9a-f]{2})*)`')
 SHOWN = [name for name in COUNTS if name != 'fit']
 LIMITS = ['work limit', 'visit limit']
+AT_ONCE = 400000  # bytes of calls, since the program of calls reads 524,288 at most
 USUAL = 80, 1, 0, 1  # the setting of a table that has none; without a column or a word for it the rule is 1
 SETTING = ['W', 'newline cost', 'policy', 'rule']
 
@@ -123,12 +129,12 @@ class Page:
     def call(self, data, setting, sizes, limits):
         if (sizes, limits) == PAGE and setting[2] < 2 and setting[3] in (1, 2):
             self.run(set_before(data, *setting))
-        said, counts = fromrule.answer(data, setting, sizes, limits)
+        answer = fromrule.answer(data, setting, sizes, limits)
         given = ['file ' + (data.hex() or '-')] + [
             name + ' ' + ' '.join(str(value) for value in values)
             for name, values in (('settings', setting), ('sizes', sizes), ('limits', limits))]
-        self.calls.append((given, fromrule.shown(said, counts)))
-        return said, counts
+        self.calls.append((given, fromrule.shown(*answer)))
+        return answer
 
     def run_calls(self, program):
         """All calls in the sample's form, answered by a program that takes them so (crates/test_calls)."""
@@ -136,6 +142,11 @@ class Page:
         for number, (call, said) in enumerate(self.calls):
             given += '\n'.join(['case %d' % number] + call) + '\n'
             wanted += '\n'.join(['case %d' % number] + said) + '\n\n'
+            if len(given) > AT_ONCE or number + 1 == len(self.calls):
+                self.run_part(program, given, wanted)
+                given, wanted = '', ''
+
+    def run_part(self, program, given, wanted):
         written = subprocess.run([program], input=given.encode(), capture_output=True).stdout.decode()
         for one, other in zip(written.split('\n\n'), wanted.split('\n\n')):
             if one != other:
@@ -144,25 +155,41 @@ class Page:
             self.different.append('the program of calls answers otherwise')
 
     def results(self, section, head, rows):
-        """Pages or counts: a row has the file, the setting, and what comes of it."""
+        """Pages, counts or needs: a row has the file, the setting, and what comes of it."""
         for row in rows:
             cell = dict(zip(head, row))
             setting = [number(cell[name]) for name in SETTING[:3]] + [number(cell.get('rule', '1'))]
-            said, counts = self.call(self.made_of(cell['file']), setting, *PAGE)
+            said, counts, needs = self.call(self.made_of(cell['file']), setting, *PAGE)
             where = '%s: %s at %s' % (section, cell['file'], setting)
             if 'work' in cell:
                 self.agree('counts', where, [number(cell[name]) for name in SHOWN], [counts[name] for name in SHOWN])
             if 'page' in cell:
                 told = row_of_bytes(cell['page']), spans_in(cell.get('spans', 'none')), (number(cell['overflow']), number(cell['burden']))
                 self.agree('pages', where, told, said)
+            if 'stack' in cell:
+                self.agree('needs', where, [number(cell[name]) for name in SIZES], needs and list(needs.values()))
+                if needs:
+                    self.suffice(where, self.made_of(cell['file']), setting, (said, counts, needs))
+
+    def suffice(self, where, data, setting, answer):
+        """A page's needs: lent just these, the same comes; with one of them one less, or 0, that kind's refusal."""
+        needs = list(answer[2].values())
+        self.agree('calls at the needs', where, answer, self.call(data, setting, needs, PAGE[1]))
+        for kind, need in enumerate(needs):
+            for size in sorted({need - 1, 0} if need else set()):
+                said, _, _ = self.call(data, setting, needs[:kind] + [size] + needs[kind + 1:], PAGE[1])
+                own = len(said) == 2 and said[0] == 13 + kind and size < said[1] <= need
+                self.agree('calls with one size smaller', '%s, %s %d' % (where, SIZES[kind], size), own, True)
 
     def refusals(self, section, head, rows):
         for row in rows:
             cell = dict(zip(head, row))
             setting, sizes, limits = changed(cell.get('but', ''))
-            said, counts = self.call(self.made_of(cell['file']), setting, sizes, limits)
-            told = [number(cell['no.']), number(cell.get('needed', '0'))] + [number(cell.get(name, '0')) for name in SHOWN]
-            self.agree('refusals', '%s: %s' % (section, row), told, list(said[:2]) + [counts[name] for name in SHOWN])
+            said, counts, _ = self.call(self.made_of(cell['file']), setting, sizes, limits)
+            # 2 to 10 have no columns for the counts, which are 0; others may leave them out
+            names = SHOWN if 'work' in cell or number(cell['no.']) <= 10 else []
+            told = [number(cell['no.']), number(cell.get('needed', '0'))] + [number(cell.get(name, '0')) for name in names]
+            self.agree('refusals', '%s: %s' % (section, row), told, list(said[:2]) + [counts[name] for name in names])
 
     def steps(self, section, before, rows):
         named = re.findall(r'The file of (\d\.\d+) at W (\d+), newline cost (\d+)(?:, rule (\d))?', before)[-1]

@@ -49,8 +49,14 @@ enum {
     GANNOZHI_MEMO_ENTRIES,
     GANNOZHI_PLAN_NODES,
     GANNOZHI_VISITS,
-    GANNOZHI_ANSWER
+    GANNOZHI_NEEDS,          /* from here on a page's nine needs, in the order of the sizes; on refusals 0 */
+    GANNOZHI_ANSWER = GANNOZHI_NEEDS + GANNOZHI_SIZES
 };
+
+/* A page's needs are the sizes that just suffice: the greatest that was needed of each kind, whatever was lent. Lent exactly these, the same
+ * call with the same limits gives the same page, cost, counts and needs. With exactly one of them smaller, and the others as they are, it is
+ * refused by that kind's own number (13 to 21), and the size that is needed is above the one given and at most the need. Each is below 2^32
+ * and can be put among the sizes as it is; the memo's index then has gannozhi_memo_slots of the memo's need. */
 
 /* The word of a refusal in the rule; an empty string for a number that is none, so that it can be printed untested. */
 static inline const char *gannozhi_refusal(uint32_t number) {

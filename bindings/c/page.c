@@ -1,4 +1,4 @@
-/* The page of a prepared file on standard output, its cost and spans on standard error; or why there is none.
+/* The page of a prepared file on standard output; its cost, the sizes that just suffice and its spans on standard error; or why there is none.
  *
  *     rt staticlib gannozhi
  *     cc -O2 -o page bindings/c/page.c target/staticlib/libgannozhi.a
@@ -69,6 +69,9 @@ int main(int count, char **words) {
     }
     fprintf(stderr, "overflow %016" PRIx64 "%016" PRIx64 ", burden %" PRIu64 ", work %" PRIu64 "\n", answer[GANNOZHI_OVERFLOW_HIGH],
             answer[GANNOZHI_OVERFLOW_LOW], answer[GANNOZHI_BURDEN], answer[GANNOZHI_WORK]);
+    for (uint32_t i = 0; i < GANNOZHI_SIZES; i++) /* each by the word of its refusal */
+        fprintf(stderr, "%s %s %" PRIu64, i == 0 ? "needs" : ",", gannozhi_refusal(13 + i), answer[GANNOZHI_NEEDS + i]);
+    fputs("\n", stderr);
     for (uint64_t i = 0; i < answer[GANNOZHI_SPAN_COUNT]; i++) {
         const uint64_t *span = lent.spans[i]; /* annotation, start, end; its parent, `-` for none */
         fprintf(stderr, "span %" PRIu64 " %" PRIu64 " %" PRIu64, span[0], span[1], span[2]);

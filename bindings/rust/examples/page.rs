@@ -1,4 +1,5 @@
-//! The page of a prepared file on standard output, its cost and spans on standard error; or why there is none.
+//! The page of a prepared file on standard output; its cost, the sizes that just suffice and its spans on standard error; or why there is
+//! none.
 //!
 //!     cargo run --offline --example page -- 36 < ../../samples/ticket.prepared
 
@@ -37,6 +38,7 @@ fn main() -> ExitCode {
     match Printer::new(Sizes::PAGE).render(&file, &Settings { width, newline_cost, policy, rule }, &limits) {
         Ok(page) => {
             eprintln!("overflow {:032x}, burden {}, work {}", page.overflow, page.burden, page.counts.work);
+            eprintln!("needs {}", page.needs);
             for span in page.spans() {
                 eprintln!("span {span}");
             }

@@ -35,6 +35,8 @@ pub struct Rendered {
     pub overflow: u128,
     pub burden: u64,
     pub counts: Counts,
+    /// The sizes that just suffice for it, as in [`Page::needs`](crate::Page::needs).
+    pub needs: Sizes,
 }
 
 #[allow(clippy::too_many_arguments)]
@@ -48,9 +50,27 @@ pub fn render_lent(
     output: &mut [u8],
     spans: &mut [[u64; 4]],
 ) -> Result<Rendered, Refusal> {
-    let mut answer = [0u64; 17];
+    let mut answer = [0; 26];
+    render_words(file, settings, sizes, limits, tables, solver, output, spans, &mut answer);
+    told(&answer)
+}
+
+/// The same call with its answer as the words that the library writes, in the order of the C header; [`told`] names them. The first is
+/// returned too. What they hold before does not matter: each is written.
+#[allow(clippy::too_many_arguments)]
+pub fn render_words(
+    file: &[u8],
+    settings: &Settings,
+    sizes: &Sizes,
+    limits: &Limits,
+    tables: TableMemory,
+    solver: SolverMemory,
+    output: &mut [u8],
+    spans: &mut [[u64; 4]],
+    answer: &mut [u64; 26],
+) -> u32 {
     // SAFETY: every pointer and length is that of a live Rust slice or array, and no two that are written overlap.
-    let number = unsafe {
+    unsafe {
         raw::gannozhi_render(
             file.as_ptr(),
             file.len(),
@@ -95,18 +115,24 @@ pub fn render_lent(
             output.len(),
             spans.as_mut_ptr(),
             spans.len(),
-            &mut answer,
+            answer,
         )
-    };
-    let [_, needed, length, rows, high, low, burden, work, fit_checks, hits, misses, generated, pruned, peak_frontier, memo_entries, plan_nodes, visits] =
-        answer;
+    }
+}
+
+/// What the words of an answer say. A refusal's words from 17 on are 0: it has no needs.
+pub fn told(answer: &[u64; 26]) -> Result<Rendered, Refusal> {
+    let [number, needed, length, rows, high, low, burden, work, fit_checks, hits, misses, generated, pruned, peak_frontier, memo_entries, plan_nodes, visits, needs @ ..] =
+        *answer;
     let counts =
         Counts { work, fit_checks, hits, misses, generated, pruned, peak_frontier, memo_entries, plan_nodes, visits };
     if number != 0 {
-        return Err(Refusal { number, needed, counts });
+        return Err(Refusal { number: number as u32, needed, counts });
     }
     let overflow = u128::from(high) << 64 | u128::from(low);
-    Ok(Rendered { length: length as usize, spans: rows as usize, overflow, burden, counts })
+    // Each is at most its size, a number of 32 bits.
+    let needs = Sizes::of(needs.map(|need| need as u32));
+    Ok(Rendered { length: length as usize, spans: rows as usize, overflow, burden, counts, needs })
 }
 
 /// How many rows or items of each table a file has, and its root and space text.

@@ -7,8 +7,8 @@ mod lent;
 mod raw;
 
 pub use lent::{
-    read_lent, render_lent, write_lent, FileCounts, FileTables, Rendered, SolverMemory, TableCounts, TableMemory,
-    Written,
+    read_lent, render_lent, render_words, told, write_lent, FileCounts, FileTables, Rendered, SolverMemory,
+    TableCounts, TableMemory, Written,
 };
 
 /// The settings of a call. A width of 0, a policy above 1 and a rule other than 1 and 2 are refused by 1.
@@ -52,8 +52,22 @@ impl Sizes {
         spans: 512,
     };
 
+    pub const fn of(list: [u32; 9]) -> Sizes {
+        let [stack, memo, kept, frontier, plans, visit, depth, output, spans] = list;
+        Sizes { stack, memo, kept, frontier, plans, visit, depth, output, spans }
+    }
+
     pub fn list(&self) -> [u32; 9] {
         [self.stack, self.memo, self.kept, self.frontier, self.plans, self.visit, self.depth, self.output, self.spans]
+    }
+}
+
+/// Each by the word of its refusal: `stack 6, memo 22, ..`.
+impl std::fmt::Display for Sizes {
+    fn fmt(&self, f: &mut std::fmt::Formatter) -> std::fmt::Result {
+        let sizes: Vec<_> =
+            (13..).zip(self.list()).map(|(number, size)| format!("{} {size}", refusal(number))).collect();
+        write!(f, "{}", sizes.join(", "))
     }
 }
 
@@ -107,6 +121,10 @@ pub struct Page<'a> {
     pub overflow: u128,
     pub burden: u64,
     pub counts: Counts,
+    /// The sizes that just suffice: the greatest that was needed of each kind, whatever was lent. `Printer::new(page.needs)` gives the same
+    /// page under the same settings and limits; with one of them smaller and the others as they are, that kind's refusal comes. A refusal
+    /// has no needs.
+    pub needs: Sizes,
 }
 
 impl Page<'_> {
@@ -281,6 +299,7 @@ impl Printer {
             overflow: done.overflow,
             burden: done.burden,
             counts: done.counts,
+            needs: done.needs,
         })
     }
 }

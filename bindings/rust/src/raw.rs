@@ -45,7 +45,7 @@ extern "C" {
         output_length: usize,
         spans: *mut [u64; 4],
         spans_length: usize,
-        answer: *mut [u64; 17],
+        answer: *mut [u64; 26],
     ) -> u32;
 
     pub fn gannozhi_read(

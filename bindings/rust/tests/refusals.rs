@@ -46,6 +46,11 @@ fn order() {
     }
 }
 
+fn bytes(hex: &str) -> Vec<u8> {
+    let digits: Vec<u8> = hex.chars().filter_map(|c| c.to_digit(16)).map(|digit| digit as u8).collect();
+    digits.chunks(2).map(|pair| pair[0] << 4 | pair[1]).collect()
+}
+
 #[test]
 fn of_the_file() {
     // One node and one text; the space.
@@ -82,8 +87,7 @@ fn of_the_file() {
         // Nest 1 over Nest 2^32 - 1
         (25, format!("05 03000000 01000000 0307 01000000 01000000 0307 ffffffff 02000000 0000 {SP}")),
     ] {
-        let digits: Vec<u8> = file.chars().filter_map(|c| c.to_digit(16)).map(|digit| digit as u8).collect();
-        let file: Vec<u8> = digits.chunks(2).map(|pair| pair[0] << 4 | pair[1]).collect();
+        let file = bytes(&file);
         let refused = page(&file, SETTINGS, Sizes::PAGE, LIMITS).unwrap_err();
         assert_eq!(refused.to_string(), format!("refused {number} {}", refusal(number)));
         // 11 and 25 are found by the solver: the file is right.
@@ -116,23 +120,40 @@ fn cost() {
     }
 }
 
-fn sizes(list: [u32; 9]) -> Sizes {
-    let [stack, memo, kept, frontier, plans, visit, depth, output, spans] = list;
-    Sizes { stack, memo, kept, frontier, plans, visit, depth, output, spans }
-}
-
-/// The least sizes are enough for the page; with one less of any it is refused, and the refusal says what is needed.
+/// The page tells the least sizes, whatever is lent; with one less of any it is refused, and the refusal says what is needed.
 #[test]
 fn too_little_of_each_size() {
     const LEAST: [u32; 9] = [6, 22, 70, 4, 70, 11, 2, 36, 3];
-    assert_eq!(page(FILE, SETTINGS, sizes(LEAST), LIMITS).unwrap(), page(FILE, SETTINGS, Sizes::PAGE, LIMITS).unwrap());
+    let right = page(FILE, SETTINGS, Sizes::PAGE, LIMITS).unwrap();
+    for sizes in [Sizes::PAGE, Sizes::of(LEAST)] {
+        let mut printer = Printer::new(sizes);
+        let page = printer.render(FILE, &SETTINGS, &LIMITS).unwrap();
+        assert_eq!((page.bytes, page.needs), (&right[..], Sizes::of(LEAST)));
+    }
     for (kind, needed) in LEAST.into_iter().enumerate() {
         let mut less = LEAST;
         less[kind] -= 1;
         let number = 13 + kind as u32;
-        let refused = page(FILE, SETTINGS, sizes(less), LIMITS).unwrap_err();
+        let refused = page(FILE, SETTINGS, Sizes::of(less), LIMITS).unwrap_err();
         assert_eq!(refused.to_string(), format!("refused {number} {}, needed {needed}", refusal(number)));
     }
+}
+
+/// A Choice with the list Penalty 1 `a`, Penalty 1 `bb`, Empty: the frontier holds 1, 2, then 1 candidate. Its need is not the peak frontier,
+/// which is that of finished ones.
+#[test]
+fn frontier_at_work() {
+    let file = bytes(
+        "35 07000000 03000000 03000000 06000000 0101 01000000 0101 02000000 010b 01000000 030b 01000000 01000000 0000 \
+        0309 03000000 04000000 3309 02000000 05000000 03000000 01000000 02000000 03000000 04000000 \
+        03 01000000 01000000 20 03 01000000 01000000 61 03 02000000 02000000 6262",
+    );
+    let mut printer = Printer::new(Sizes::PAGE);
+    let page = printer.render(&file, &SETTINGS, &LIMITS).unwrap();
+    assert_eq!((page.counts.peak_frontier, page.needs.list()), (1, [5, 6, 6, 2, 5, 1, 0, 0, 0]));
+    let less = Sizes { frontier: 1, ..page.needs };
+    let refused = Printer::new(less).render(&file, &SETTINGS, &LIMITS).unwrap_err();
+    assert_eq!(refused.to_string(), "refused 16 frontier, needed 2");
 }
 
 #[test]
@@ -149,8 +170,15 @@ fn limits() {
     }
 }
 
-/// A call on slices for the sizes of `page`, with the caller's own output and spans.
-fn lent(sizes: &Sizes, output: &mut [u8], spans: &mut [[u64; 4]]) -> Result<Rendered, Refusal> {
+/// The words of a call on slices for the sizes of `page`, with the caller's own output and spans.
+fn lent(
+    file: &[u8],
+    settings: &Settings,
+    sizes: &Sizes,
+    limits: &Limits,
+    output: &mut [u8],
+    spans: &mut [[u64; 4]],
+) -> [u64; 26] {
     let tables = TableMemory {
         nodes: &mut vec![[0; 8]; 4_096],
         edges: &mut vec![0; 16_384],
@@ -170,7 +198,36 @@ fn lent(sizes: &Sizes, output: &mut [u8], spans: &mut [[u64; 4]]) -> Result<Rend
         visit: &mut [0; 512],
         depth: &mut [0; 64],
     };
-    render_lent(FILE, &SETTINGS, sizes, &LIMITS, tables, solver, output, spans)
+    // Dirty, so that a word that is not written shows.
+    let mut answer = [u64::MAX; 26];
+    let number = render_words(file, settings, sizes, limits, tables, solver, output, spans, &mut answer);
+    assert_eq!(u64::from(number), answer[0]);
+    answer
+}
+
+/// A refusal's words for page, cost and needs are 0; a page's last nine are its needs.
+#[test]
+fn no_needs_of_a_refusal() {
+    let room = Sizes { output: 40, spans: 4, ..Sizes::PAGE };
+    let words =
+        |file: &[u8], settings, sizes, limits| lent(file, &settings, &sizes, &limits, &mut [0; 40], &mut [[0; 4]; 4]);
+    let answer = words(FILE, SETTINGS, room, LIMITS);
+    assert_eq!(answer[17..], [6, 22, 70, 4, 70, 11, 2, 36, 3]);
+    let mut refused = vec![
+        (1, words(FILE, Settings { rule: 0, ..SETTINGS }, room, LIMITS)),
+        (2, words(&FILE[..9], SETTINGS, room, LIMITS)),
+        (12, words(FILE, SETTINGS, room, Limits { work: answer[7] - 1, ..LIMITS })),
+        (22, words(FILE, SETTINGS, room, Limits { visits: answer[16] - 1, ..LIMITS })),
+    ];
+    for kind in 0..9 {
+        let mut less = room.list();
+        less[kind] = answer[17 + kind] as u32 - 1;
+        refused.push((13 + kind as u64, words(FILE, SETTINGS, Sizes::of(less), LIMITS)));
+    }
+    for (number, answer) in refused {
+        assert_eq!(answer[0], number);
+        assert_eq!((&answer[2..7], &answer[17..]), (&[0; 5][..], &[0; 9][..]), "refused {number}");
+    }
 }
 
 /// What stands in output and spans stays there on a refusal, and always past their end.
@@ -185,7 +242,7 @@ fn unaltered() {
         (0, room),
     ] {
         let (mut output, mut spans) = ([b'x'; 40], [[7; 4]; 4]);
-        let answer = lent(&sizes, &mut output, &mut spans);
+        let answer = told(&lent(FILE, &SETTINGS, &sizes, &LIMITS, &mut output, &mut spans));
         assert_eq!(answer.err().map_or(0, |refused| refused.number), number);
         let (length, rows) = answer.map_or((0, 0), |done| (done.length, done.spans));
         assert_eq!(output[..length], right[..length]);

@@ -99,6 +99,40 @@ fn page_and_spans() {
     assert!(second > 0, "a sample's page is charged under rule 2");
 }
 
+/// The sizes that a page tells just suffice: lent exactly these, the same answer comes, and with one of them smaller it is refused by that
+/// kind's number.
+#[test]
+fn needs() {
+    let limits = Limits { work: 1_000_000, visits: 1_000_000 };
+    // What comes under these sizes: all of a page, or the refusal.
+    let answer = |sizes: Sizes, file: &[u8], settings: &Settings| {
+        let mut printer = Printer::new(sizes);
+        let answer = printer.render(file, settings, &limits);
+        let bytes = written(&answer);
+        answer.map(|page| (bytes, page.spans().collect::<Vec<_>>(), page.counts, page.needs))
+    };
+    let mut smaller = 0;
+    for Sample { name, input, prepared, .. } in samples() {
+        let settings = setting(&input).0;
+        let Ok(page) = answer(Sizes::PAGE, &prepared, &settings) else { continue };
+        let needs = page.3.list();
+        assert_eq!(answer(Sizes::of(needs), &prepared, &settings), Ok(page), "{name}");
+        for kind in 0..9 {
+            let mut below = vec![0, needs[kind].saturating_sub(1)];
+            below.dedup();
+            for size in below.into_iter().filter(|size| *size < needs[kind]) {
+                let mut less = needs;
+                less[kind] = size;
+                let refused = answer(Sizes::of(less), &prepared, &settings).unwrap_err();
+                assert_eq!(refused.number, 13 + kind as u32, "{name}: {refused} at {less:?}");
+                assert!((size + 1..=needs[kind]).contains(&(refused.needed as u32)), "{name}: {refused} at {less:?}");
+                smaller += 1;
+            }
+        }
+    }
+    assert!(smaller > 100);
+}
+
 #[test]
 fn read_and_written_again() {
     let (mut nodes, mut texts) = (vec![[0; 8]; 4_096], vec![[0; 3]; 4_096]);

@@ -15,7 +15,7 @@ use Rattle.prepare.specs.File.{wrong}
 use Rattle.machine.specs.Events.{Bounds, no-counts}
 use Rattle.machine.specs.Answer.{Answer, paged, refused}
 use Rattle.answer.specs.Answer.{Settings, Answers, out-of-order, wrong-file}
-use Rattle.answer.specs.Worked.{bytes-of, sound, texted, tried, page-bounds, counted, file-read, references-right, texts-right, worked}
+use Rattle.answer.specs.Worked.{bytes-of, sound, texted, tried, page-bounds, counted, needing, file-read, references-right, texts-right, worked}
 
 abbrev at-80 : Settings
 at-80 = record { width = 80; newline-cost = 0; policy = 0; rule = 1 }
@@ -28,10 +28,10 @@ ab-file = 69 ∷ 1 ∷ 0 ∷ 0 ∷ 0 ∷ 2 ∷ 0 ∷ 0 ∷ 0 ∷ 1 ∷ 0 ∷ 0 �
 abbrev ab-tables : Tables
 ab-tables = tables ((1 ∷ 0 ∷ 0 ∷ 0 ∷ 0 ∷ 0 ∷ 0 ∷ 0 ∷ []) ∷ []) [] [] ((2 ∷ 2 ∷ 0 ∷ []) ∷ (1 ∷ 1 ∷ 2 ∷ []) ∷ []) (97 ∷ 98 ∷ 32 ∷ []) 0 0 1
 
--- the page `ab`, work 2, overflow 0, burden 0, no spans
+-- the page `ab`, work 2, overflow 0, burden 0, no spans; one of each kind is needed, no depth, 2 bytes
 pub example :
     Answers (Unit {0}) ab-file at-80 (page-bounds 1000000)
-    (paged (record { bytes = 97 ∷ 98 ∷ []; spans = []; cost = record { overflow = 0; burden = 0 } }) (counted 2 0 1 1 0 1 1 1 1))
+    (paged (record { bytes = 97 ∷ 98 ∷ []; spans = []; cost = record { overflow = 0; burden = 0 } }) (needing (counted 2 0 1 1 0 1 1 1 1) 1 1 1 1 1 1 0 2 0))
 unfolding bytes-of sound texted tried
 example = worked ab-tables refl refl refl refl refl
 
@@ -52,7 +52,7 @@ abbrev at-1-under : ℕ → Settings
 at-1-under r = record { width = 1; newline-cost = 0; policy = 0; rule = r }
 
 abbrev abc-page : ℕ → Answer
-abc-page o = paged (record { bytes = 97 ∷ 98 ∷ 99 ∷ []; spans = []; cost = record { overflow = o; burden = 0 } }) (counted 2 0 1 1 0 1 1 1 1)
+abc-page o = paged (record { bytes = 97 ∷ 98 ∷ 99 ∷ []; spans = []; cost = record { overflow = o; burden = 0 } }) (needing (counted 2 0 1 1 0 1 1 1 1) 1 1 1 1 1 1 0 3 0)
 
 pub abc-rule-1 : Answers (Unit {0}) abc-file (at-1-under 1) (page-bounds 1000000) (abc-page 4)
 unfolding bytes-of sound texted tried
@@ -126,6 +126,6 @@ whole-tables = tables ((1 ∷ 0 ∷ 0 ∷ 0 ∷ 0 ∷ 0 ∷ 0 ∷ 0 ∷ []) ∷ 
 
 pub whole :
     Answers (Unit {0}) whole-file at-80 (page-bounds 1000000)
-    (paged (record { bytes = 195 ∷ 169 ∷ []; spans = []; cost = record { overflow = 0; burden = 0 } }) (counted 2 0 1 1 0 1 1 1 1))
+    (paged (record { bytes = 195 ∷ 169 ∷ []; spans = []; cost = record { overflow = 0; burden = 0 } }) (needing (counted 2 0 1 1 0 1 1 1 1) 1 1 1 1 1 1 0 2 0))
 unfolding bytes-of sound texted tried
 whole = worked whole-tables refl refl refl refl refl

@@ -1,20 +1,24 @@
--- Every answer is as promised; under sizes and limits none smaller a page stays the same page, counts too; the counts balance.
+-- Every answer is as promised; under sizes and limits none smaller a page stays the same page, counts too; so it does under just the sizes that it needs, and under less of one kind it is that kind's refusal; the counts balance.
 use mathlib.Core.Path.{_≡_, refl, ap, subst}
 use mathlib.Core.List.{List}
-use Prim.Native.Nat.{ℕ}
+use Prim.Native.Nat.{ℕ, _≤_}
 use native.Mathlib.Omega.{arith}
 use Rattle.layout.specs.Charging.{charging-lawful}
 use Rattle.file_encode.specs.Fields.{Bytes}
 use Rattle.machine.specs.Numbers.{Numbered, listed, machine-numbered}
-use Rattle.machine.specs.Events.{Bounds, Counts}
+use Rattle.machine.specs.Events.{Bounds, Counts, Kind, size, need-of}
 use Rattle.machine.specs.Materializer.{Rendered}
 use Rattle.machine.specs.Answer.{Answer, paged, refused, answer}
 use Rattle.machine.specs.Balance.{Balanced, counts-in, balanced-answer}
 use Rattle.machine.specs.Larger.{Larger, larger-answer}
+use Rattle.machine.specs.Just.{just, Smaller, RefusedBy, within-answer, just-answer, less-answer}
 use Rattle.machine_right.specs.Pruned.{Fair, fair-answer}
 use Rattle.machine_right.specs.Right.{RightPage, Right, answer-right}
 use Rattle.machine_right.specs.Right.{right-page as found-page, right-refusal as found-refusal}
-use Rattle.answer.specs.Answer.{Settings, rules-of, document-of, lent-as, Answers, out-of-order, wrong-file, laid-out}
+use Rattle.file_form.specs.Form.{countsOf}
+use Rattle.prepare.specs.declared.read.Answer.the-variants.{Accepted}
+use Rattle.prepare.specs.File.{Means}
+use Rattle.answer.specs.Answer.{Settings, Ordered, rules-of, document-of, lent-as, Answers, out-of-order, wrong-file, laid-out}
 use Rattle.answer.specs.Page.{RulesPage, Promised, right-page, right-refusal}
 use Rattle.answer.specs.Ready.{means-ready}
 use Rattle.answer.specs.Faults.{file-faults}
@@ -70,6 +74,38 @@ module _ {lent wider : Type 0} {file : List ℕ} {c : Settings} {b d : Bounds} (
 
   pub only-page : {r : Rendered} {k : Counts} {a : Answer} → Answers lent file c b (paged r k) → Answers wider file c d a → a ≡ paged r k
   only-page p q = answers-one q (same-page p)
+
+-- ---- under just the sizes that a page needs, and under less (document 02, change 10)
+
+-- how a page came about
+record LaidOut (lent : Type 0) (file : List ℕ) (c : Settings) (b : Bounds) (a : Answer) : Type 0 where
+  pub ordered : Ordered lent c
+  pub means : Means file (Accepted (countsOf file))
+  pub is : answer (rules-of c) (document-of file) b ≡ a
+
+module _ {lent : Type 0} {file : List ℕ} {c : Settings} {b : Bounds} {r : Rendered} {k : Counts} where
+  laid-page : {a : Answer} → Answers lent file c b a → a ≡ paged r k → LaidOut lent file c b (paged r k)
+  laid-page (out-of-order n) e = let z : _≡_ {A = ℕ} 0 1 = cc in absurd (omega arith)
+  laid-page (wrong-file n o m) e = let z : _≡_ {A = ℕ} 0 1 = cc in absurd (omega arith)
+  laid-page (laid-out o m) e = record { ordered = o; means = m; is = e }
+
+  -- what is needed was lent
+  pub needs-within : Answers lent file c b (paged r k) → (x : Kind) → need-of (k .needs) x ≤ size b x
+  needs-within p = let h = laid-page p refl in within-answer (rules-of c) (document-of file) b r k (h .is)
+
+  module _ {other : Type 0} (w : other) (p : Answers lent file c b (paged r k)) where
+    -- the same page, the same counts and needs, and no other answer
+    pub just-page : {a : Answer} → Answers other file c (just (k .needs) b) a → a ≡ paged r k
+    just-page q =
+        let h = laid-page p refl in
+        let same = just-answer (rules-of c) (document-of file) b r k (h .is) in
+        answers-one q (subst (λ (a : Answer). Answers other file c (just (k .needs) b) a) same (laid-out (lent-as w (h .ordered)) (h .means)))
+
+    pub less-refused : (x : Kind) (d : Bounds) → Smaller x (k .needs) b d → {a : Answer} → Answers other file c d a → RefusedBy x (k .needs) d a
+    less-refused x d s q =
+        let h = laid-page p refl in
+        let own = less-answer (rules-of c) (document-of file) b r k (h .is) x d s in
+        subst (λ (a : Answer). RefusedBy x (k .needs) d a) (answers-one (laid-out (lent-as w (h .ordered)) (h .means)) q) own
 
 -- ---- the counts
 

@@ -13,7 +13,7 @@ use Rattle.machine.specs.Model.{PlanEmpty, Made, Scratch, scratch, blank-state,
 use Rattle.machine.specs.Solver.{present, present-all, ranked}
 use Rattle.machine.specs.Answer.{Answer, paged, refused}
 use Rattle.answer.specs.Answer.{Settings, Answers}
-use Rattle.answer.specs.Worked.{bytes-of, tried, sound, texted, worked, page-bounds, counted}
+use Rattle.answer.specs.Worked.{bytes-of, tried, sound, texted, worked, page-bounds, counted, needing}
 
 -- ---- the files, a record a line: header, nodes, edges, texts (the first is the space)
 
@@ -94,29 +94,29 @@ shows bytes o b k = paged (record { bytes = bytes; spans = []; cost = record { o
 abbrev priced : ℕ → ℕ → ℕ → Scratch
 priced o b c = scratch (record { overflow = o; burden = b }) c (Made PlanEmpty)
 
--- Counts: work, hits, misses, generated, pruned, peak, entries, plan nodes, visits. Where document 01 names no width it is 80, no newline cost 1, no policy 0
+-- Counts: work, hits, misses, generated, pruned, peak, entries, plan nodes, visits; and what is needed of each kind (document 02, change 10). Where document 01 names no width it is 80, no newline cost 1, no policy 0
 abbrev pub starred : List Row
 starred =
     -- "★ One Empty: no bytes, work 2."
-    call empty-file (at 80 1 0) (shows [] 0 0 (counted 2 0 1 1 0 1 1 1 1))
+    call empty-file (at 80 1 0) (shows [] 0 0 (needing (counted 2 0 1 1 0 1 1 1 1) 1 1 1 1 1 1 0 0 0))
     -- "★ `ab`, W 2: overflow 0; ★ W 1: overflow 1."
-    ∷ call ab-file (at 2 1 0) (shows (97 ∷ 98 ∷ []) 0 0 (counted 2 0 1 1 0 1 1 1 1))
-    ∷ call ab-file (at 1 1 0) (shows (97 ∷ 98 ∷ []) 1 0 (counted 2 0 1 1 0 1 1 1 1))
+    ∷ call ab-file (at 2 1 0) (shows (97 ∷ 98 ∷ []) 0 0 (needing (counted 2 0 1 1 0 1 1 1 1) 1 1 1 1 1 1 0 2 0))
+    ∷ call ab-file (at 1 1 0) (shows (97 ∷ 98 ∷ []) 1 0 (needing (counted 2 0 1 1 0 1 1 1 1) 1 1 1 1 1 1 0 2 0))
     -- "Group of `ab` Break `cd`, flat `ab cd`, newline cost 1: ★ W 5 flat; ★ W 4 broken, cost (0, 1). ★ Newline cost 0, W 5: flat."
-    ∷ call group-file (at 5 1 0) (shows (97 ∷ 98 ∷ 32 ∷ 99 ∷ 100 ∷ []) 0 0 (counted 20 1 8 11 0 2 8 9 5))
-    ∷ call group-file (at 4 1 0) (shows (97 ∷ 98 ∷ 10 ∷ 99 ∷ 100 ∷ []) 0 1 (counted 20 1 8 11 1 1 8 9 5))
-    ∷ call group-file (at 5 0 0) (shows (97 ∷ 98 ∷ 32 ∷ 99 ∷ 100 ∷ []) 0 0 (counted 20 1 8 11 0 2 8 9 5))
+    ∷ call group-file (at 5 1 0) (shows (97 ∷ 98 ∷ 32 ∷ 99 ∷ 100 ∷ []) 0 0 (needing (counted 20 1 8 11 0 2 8 9 5) 4 8 11 2 9 3 0 5 0))
+    ∷ call group-file (at 4 1 0) (shows (97 ∷ 98 ∷ 10 ∷ 99 ∷ 100 ∷ []) 0 1 (needing (counted 20 1 8 11 1 1 8 9 5) 4 8 10 1 9 3 0 5 0))
+    ∷ call group-file (at 5 0 0) (shows (97 ∷ 98 ∷ 32 ∷ 99 ∷ 100 ∷ []) 0 0 (needing (counted 20 1 8 11 0 2 8 9 5) 4 8 11 2 9 3 0 5 0))
     -- "★ Presented (0,5) at 3, (0,5) at 7, (0,6) at 7, (0,4) at 2: one left, three pruned."
-    ∷ presents (priced 0 5 3 ∷ priced 0 5 7 ∷ priced 0 6 7 ∷ priced 0 4 2 ∷ []) (ranked 3 (priced 0 4 2) ∷ []) (counted 4 0 0 4 3 0 0 0 0)
+    ∷ presents (priced 0 5 3 ∷ priced 0 5 7 ∷ priced 0 6 7 ∷ priced 0 4 2 ∷ []) (ranked 3 (priced 0 4 2) ∷ []) (needing (counted 4 0 0 4 3 0 0 0 0) 0 0 0 2 0 0 0 0 0)
     -- "★ Fill of `a`, `b`, newline cost 1: W 3 `a b`; W 2 two lines."
-    ∷ call fill-file (at 3 1 0) (shows (97 ∷ 32 ∷ 98 ∷ []) 0 0 (counted 13 0 4 9 0 2 4 9 5))
-    ∷ call fill-file (at 2 1 0) (shows (97 ∷ 10 ∷ 98 ∷ []) 0 1 (counted 13 0 4 9 1 2 4 8 5))
+    ∷ call fill-file (at 3 1 0) (shows (97 ∷ 32 ∷ 98 ∷ []) 0 0 (needing (counted 13 0 4 9 0 2 4 9 5) 2 4 9 2 9 3 0 3 0))
+    ∷ call fill-file (at 2 1 0) (shows (97 ∷ 10 ∷ 98 ∷ []) 0 1 (needing (counted 13 0 4 9 1 2 4 8 5) 2 4 8 2 8 3 0 3 0))
     -- "★ Nest 1 over Nest 2^32 − 1 over Empty, W 80: 11 under either policy." By document 02, change 3, it is 25
     ∷ call nests-file (at 80 1 0) (refused 25 0 (counted 2 0 2 0 0 0 0 0 0))
     ∷ call nests-file (at 80 1 1) (refused 25 0 (counted 2 0 2 0 0 0 0 0 0))
     -- "★ HardLine in Nest 3, W 3: 3 spaces, policy 1: 2."
-    ∷ call line-file (at 3 1 0) (shows (10 ∷ 32 ∷ 32 ∷ 32 ∷ []) 0 1 (counted 3 0 2 1 0 1 2 1 1))
-    ∷ call line-file (at 3 1 1) (shows (10 ∷ 32 ∷ 32 ∷ []) 0 1 (counted 3 0 2 1 0 1 2 1 1))
+    ∷ call line-file (at 3 1 0) (shows (10 ∷ 32 ∷ 32 ∷ 32 ∷ []) 0 1 (needing (counted 3 0 2 1 0 1 2 1 1) 2 2 1 1 1 1 0 4 0))
+    ∷ call line-file (at 3 1 1) (shows (10 ∷ 32 ∷ 32 ∷ []) 0 1 (needing (counted 3 0 2 1 0 1 2 1 1) 2 2 1 1 1 1 0 3 0))
     ∷ []
 
 abbrev pub Holds : Row → Type 0

@@ -31,7 +31,7 @@ use Rattle.file_checks.specs.Choice.{ListsRight}
 use Rattle.file_checks.specs.Judged.{Judged, accepted}
 use Rattle.prepare.specs.File.{right}
 use Rattle.machine_input.specs.Reading.{node-of-row, choice-of-row, prepared}
-use Rattle.machine.specs.Events.{Bounds, Counts}
+use Rattle.machine.specs.Events.{Bounds, Counts, no-needs, with-needs}
 use Rattle.machine.specs.Model.{plan-at}
 use Rattle.machine.specs.Solver.{push-exact-task, push-exact-result, push-pending, checked-add, present, present-all, additional-plans, committed, finish-builder, singleton, present-range, union-ranges, present-wrapped, wrap-range, memo-insert, complete-node, push-joined, build-pending}
 use Rattle.machine.specs.Solver.{checked-text, push-gaps, fill-boundary, push-child, complete-singleton, begin-empty, begin-text, begin-newline, begin-sequence, begin-union, begin-group, begin-nest, skip-choices, push-alternatives, begin-choice, begin-kind, begin-known, begin-node}
@@ -79,7 +79,12 @@ counted w h m g p t e n v = record {
   memo-entries = e;
   plan-nodes = n;
   visits = v;
+  needs = no-needs;
 }
+
+-- and a page's needs: stack, memo, kept, frontier, plans, visit, depth, output, spans
+abbrev pub needing : Counts → ℕ → ℕ → ℕ → ℕ → ℕ → ℕ → ℕ → ℕ → ℕ → Counts
+needing k s m p f l v d o n = with-needs k (record { stack = s; memo = m; kept = p; frontier = f; plans = l; visit = v; depth = d; output = o; spans = n })
 
 -- ---- a test for tables in which every number of a node names an earlier one, and which have no choice list
 

@@ -17,7 +17,7 @@ use render::page::Rendered;
 use solve_workspace::Bounds;
 use solve_workspace::RenderOptions;
 
-fn answer_words(r: Rendered) -> [u64; 17]
+fn answer_words(r: Rendered) -> [u64; 26]
     ensures { λ w. ⌜ w ≡ words r ⌝ }
 {
     match r {
@@ -26,6 +26,7 @@ fn answer_words(r: Rendered) -> [u64; 17]
             length,
             spans,
             stats: k,
+            needs: q,
         } => [
             0,
             0,
@@ -44,6 +45,15 @@ fn answer_words(r: Rendered) -> [u64; 17]
             k.memo_entries,
             k.plan_nodes,
             k.visits,
+            q.stack as u64,
+            q.memo as u64,
+            q.kept as u64,
+            q.frontier as u64,
+            q.plans as u64,
+            q.visit as u64,
+            q.depth as u64,
+            q.output as u64,
+            q.spans as u64,
         ],
         Rendered::Refused {
             number,
@@ -67,6 +77,15 @@ fn answer_words(r: Rendered) -> [u64; 17]
             k.memo_entries,
             k.plan_nodes,
             k.visits,
+            0,
+            0,
+            0,
+            0,
+            0,
+            0,
+            0,
+            0,
+            0,
         ],
     }
 }
@@ -80,6 +99,7 @@ fn answer_number(r: Rendered) -> u32
             length: _,
             spans: _,
             stats: _,
+            needs: _,
         } => 0,
         Rendered::Refused {
             number,
@@ -135,7 +155,7 @@ pub extern "C" fn gannozhi_render(
     depth: &mut [usize],
     output: &mut [u8],
     spans: &mut [[u64; 4]],
-    answer: &mut [u64; 17],
+    answer: &mut [u64; 26],
 ) -> u32
     ensures { λ r. ⌜ Answered (now (file .entry)) (options width «newline_cost» policy rule) (bounds (now (sizes .entry)) «work_limit» «visit_limit») (lengths (now (nodes .entry)) (now (edges .entry)) (now (choices .entry)) (now (texts .entry)) (now (bytes .entry)) (now (tasks .entry)) (now (results .entry)) (now (pending .entry)) (now (index .entry)) (now (entries .entry)) (now (kept .entry)) (now (frontier .entry)) (now (plans .entry)) (now (visit .entry)) (now (depth .entry)) (now (output .entry)) (now (spans .entry))) (now (output .entry)) (now (output .exit)) (now (spans .entry)) (now (spans .exit)) (now (answer .exit)) r ⌝ }
 {

@@ -4,7 +4,7 @@ use mathlib.Core.Bool.{Bool, true, false, cond}
 use Prim.Native.Nat.{_+_}
 use native.Mathlib.Omega.{arith}
 use Rattle.layout.specs.Rules.{Rules}
-use Rattle.machine.specs.Events.{Bounds, Counts, no-counts, passes, counted, why, needed, Prog, ret, emit, Out, done, stop, run}
+use Rattle.machine.specs.Events.{Bounds, Counts, no-counts, passes, counted, bare, why, needed, Prog, ret, emit, Out, done, stop, run}
 use Rattle.machine.specs.Events.{Event, Need, Within, Hit, Miss, Generated, Visit, Pruned, Peak, Entries, PlanNodes, Never}
 use Rattle.machine.specs.Model.{Prepared}
 use Rattle.machine.specs.Materializer.{Rendered, render}
@@ -18,7 +18,7 @@ counts-of (done k a) = k
 counts-of (stop w n k) = k
 
 balanced-event : (k : Counts) (e : Event) → Balanced k → Balanced (counted k e)
-balanced-event k (Need x n) h = h
+balanced-event k (Need x n) h = record { sum = h .sum }
 balanced-event k (Within r n) h = h
 balanced-event k Hit h = record { sum = omega (arith, h .sum) }
 balanced-event k Miss h = record { sum = omega (arith, h .sum) }
@@ -34,9 +34,9 @@ pub balanced-run : {A : Type 0} (b : Bounds) (k : Counts) (m : Prog A) → Balan
 balanced-run b k (ret a) h = h
 balanced-run b k (emit e p) h = go (passes b k e) (balanced-run b (counted k e) p (balanced-event k e h))
   where
-    go : (t : Bool) → Balanced (counts-of (run b (counted k e) p)) → Balanced (counts-of (cond t (run b (counted k e) p) (stop (why e) (needed e) k)))
+    go : (t : Bool) → Balanced (counts-of (run b (counted k e) p)) → Balanced (counts-of (cond t (run b (counted k e) p) (stop (why e) (needed e) (bare k))))
     go true q = q
-    go false q = h
+    go false q = record { sum = h .sum }
 
 abbrev pub counts-in : Answer → Counts
 counts-in (paged p k) = k

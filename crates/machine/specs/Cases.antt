@@ -16,7 +16,7 @@ use Rattle.layout.specs.Spans.{Span}
 use Rattle.layout.specs.Frontier.{covers}
 use Rattle.layout.specs.Frontier.{present as presented}
 use Rattle.layout.specs.Table.{Node, Empty, Break, HardLine, Text, Seq, Fill, Group, Align, Nest, Choice, Annotate, Penalty}
-use Rattle.machine.specs.Events.{Bounds, Counts}
+use Rattle.machine.specs.Events.{Bounds, Counts, Needs, no-needs}
 use Rattle.machine.specs.Model.{Prepared, ExactChoice, plan-at}
 use Rattle.machine.specs.Solver.{push-exact-task, push-exact-result, push-pending, checked-add, present, present-all, additional-plans, committed, finish-builder, singleton, present-range, union-ranges, present-wrapped, wrap-range, memo-insert, complete-node, push-joined, build-pending}
 use Rattle.machine.specs.Solver.{checked-text, push-gaps, fill-boundary, push-child, complete-singleton, begin-empty, begin-text, begin-newline, begin-sequence, begin-union, begin-group, begin-nest, skip-choices, push-alternatives, begin-choice, begin-kind, begin-known, begin-node}
@@ -108,6 +108,17 @@ under r w n p d b = said (answer (charging r w n p) d b)
 tried : ℕ → ℕ → ℕ → Prepared → Bounds → List (List ℕ)
 unfolding under
 tried = under 1
+
+-- the needs that a page comes with, in the order of 13 to 21; and the frontier's beside peak_frontier
+abbrev needs-in : Answer → Needs
+needs-in (paged p k) = k .needs
+needs-in (refused n m k) = no-needs
+
+needing : ℕ → Prepared → List ℕ
+unfolding cheap cheaper charged same covers presented plan-at push-exact-task push-exact-result push-pending checked-add present present-all additional-plans committed finish-builder singleton present-range union-ranges present-wrapped wrap-range memo-insert complete-node push-joined build-pending checked-text push-gaps fill-boundary push-child complete-singleton begin-empty begin-text begin-newline begin-sequence begin-union begin-group begin-nest skip-choices push-alternatives begin-choice begin-kind begin-known begin-node complete-alias complete-union present-ranges complete-choice-set complete-wrapped push-right gap-if-fill next-child continue-sequence next-left complete-sequence-right execute-task step rights continued work-off work-off-all evaluated rest before least-key solve-tasks take-best solve append-each visit-plan materialize render answer
+needing w d =
+    let q = needs-in (answer (charging 1 w 1 0) d ample) in
+    q .stack ∷ q .memo ∷ q .kept ∷ q .frontier ∷ q .plans ∷ q .visit ∷ q .depth ∷ q .output ∷ q .spans ∷ []
 
 -- ---- the cases
 
@@ -376,3 +387,60 @@ spans-0 = refl
 visits-spent : tried 3 1 0 fill-doc (bounds 64 64 64 16 64 32 8 64 8 1000 3) ≡ refusal 22 0 (counted 13 0 4 9 0 2 4 9 3)
 unfolding tried
 visits-spent = refl
+
+-- ---- needs (document 02, change 10)
+
+-- one Empty: the smallest
+abbrev empty-doc : Prepared
+empty-doc = prepared 0 (Empty ∷ [])
+    (word 1 (32 ∷ []) ∷ []) ([]) ([])
+
+needs-empty : needing 80 empty-doc ≡ 1 ∷ 1 ∷ 1 ∷ 1 ∷ 1 ∷ 1 ∷ 0 ∷ 0 ∷ 0 ∷ []
+unfolding needing
+needs-empty = refl
+
+needs-marked : needing 80 marked-doc ≡ 2 ∷ 2 ∷ 2 ∷ 1 ∷ 2 ∷ 2 ∷ 1 ∷ 2 ∷ 1 ∷ []
+unfolding needing
+needs-marked = refl
+
+-- a list of Penalty 1 over `a`, Penalty 1 over `bb`, Empty: the frontier holds 1, 2, then 1 candidate, and peak_frontier is 1
+abbrev falling-doc : Prepared
+falling-doc = prepared 6 (Text 1 ∷ Text 2 ∷ Penalty 1 0 ∷ Penalty 1 1 ∷ Empty ∷ Choice 3 4 ∷ Choice 2 5 ∷ [])
+    (word 1 (32 ∷ []) ∷ word 1 (97 ∷ []) ∷ word 2 (98 ∷ 98 ∷ []) ∷ []) ([]) (given 6 (2 ∷ 3 ∷ 4 ∷ []) 1 ∷ [])
+
+falling : tried 80 1 0 falling-doc ample ≡ page ([]) 0 0 (counted 15 0 7 8 2 1 6 5 1) ([])
+unfolding tried
+falling = refl
+
+needs-falling : needing 80 falling-doc ≡ 5 ∷ 6 ∷ 6 ∷ 2 ∷ 5 ∷ 1 ∷ 0 ∷ 0 ∷ 0 ∷ []
+unfolding needing
+needs-falling = refl
+
+falling-16 : tried 80 1 0 falling-doc (bounds 64 64 64 1 64 32 8 64 8 1000 1000) ≡ refusal 16 2 (counted 14 0 7 7 0 1 5 0 0)
+unfolding tried
+falling-16 = refl
+
+-- the stack's need is of tasks (three Aligns over Empty), of results (a list of four whose last is a list of three: tasks come to 5), of pending (a Seq of two Choices of three widths each)
+abbrev aligns-doc : Prepared
+aligns-doc = prepared 3 (Empty ∷ Align 0 ∷ Align 1 ∷ Align 2 ∷ [])
+    (word 1 (32 ∷ []) ∷ []) ([]) ([])
+
+needs-aligns : needing 80 aligns-doc ≡ 4 ∷ 4 ∷ 1 ∷ 1 ∷ 1 ∷ 1 ∷ 0 ∷ 0 ∷ 0 ∷ []
+unfolding needing
+needs-aligns = refl
+
+abbrev lists-doc : Prepared
+lists-doc = prepared 5 (Empty ∷ Choice 0 0 ∷ Choice 0 1 ∷ Choice 0 2 ∷ Choice 0 3 ∷ Choice 0 4 ∷ [])
+    (word 1 (32 ∷ []) ∷ []) ([]) (given 2 (0 ∷ 0 ∷ 0 ∷ []) 1 ∷ given 5 (0 ∷ 0 ∷ 0 ∷ 2 ∷ []) 2 ∷ [])
+
+needs-lists : needing 80 lists-doc ≡ 6 ∷ 3 ∷ 3 ∷ 1 ∷ 1 ∷ 1 ∷ 0 ∷ 0 ∷ 0 ∷ []
+unfolding needing
+needs-lists = refl
+
+abbrev widths-doc : Prepared
+widths-doc = prepared 5 (Text 1 ∷ Text 2 ∷ Text 3 ∷ Choice 1 2 ∷ Choice 0 3 ∷ Seq (4 ∷ 4 ∷ []) ∷ [])
+    (word 1 (32 ∷ []) ∷ word 1 (97 ∷ []) ∷ word 2 (98 ∷ 98 ∷ []) ∷ word 3 (99 ∷ 99 ∷ 99 ∷ []) ∷ []) ([]) ([])
+
+needs-widths : needing 80 widths-doc ≡ 9 ∷ 21 ∷ 37 ∷ 5 ∷ 17 ∷ 2 ∷ 0 ∷ 2 ∷ 0 ∷ []
+unfolding needing
+needs-widths = refl

@@ -126,7 +126,7 @@ asks-le b x y n h = go (eqb (index x) (index y)) refl
         omega (arith, q)
     go false e = omega arith
 
-own : (x : Kind) (n : ℕ) → asks x (Need x n) ≡ n
+pub own : (x : Kind) (n : ℕ) → asks x (Need x n) ≡ n
 own x n = ap (λ t. cond t n 0) (eq-eqb (index x) (index x) refl)
 
 tail : {A : Type 0} (b : Bounds) (k : Counts) (e : Event) (p : Prog A) → counted k e .work-items ≡ k .work-items + works e → counted k e .visits ≡ k .visits + visits-of e
@@ -139,7 +139,7 @@ tail b k e p w v h = record {
   domain = h .domain .1;
 }
 
-works-counted : (k : Counts) (e : Event) → counted k e .work-items ≡ k .work-items + works e
+pub works-counted : (k : Counts) (e : Event) → counted k e .work-items ≡ k .work-items + works e
 works-counted k (Need x n) = omega arith
 works-counted k (Within r n) = omega arith
 works-counted k Hit = refl
@@ -152,7 +152,7 @@ works-counted k (Entries n) = omega arith
 works-counted k (PlanNodes n) = omega arith
 works-counted k Never = omega arith
 
-visits-counted : (k : Counts) (e : Event) → counted k e .visits ≡ k .visits + visits-of e
+pub visits-counted : (k : Counts) (e : Event) → counted k e .visits ≡ k .visits + visits-of e
 visits-counted k (Need x n) = omega arith
 visits-counted k (Within r n) = omega arith
 visits-counted k Hit = omega arith
@@ -165,7 +165,7 @@ visits-counted k (Entries n) = omega arith
 visits-counted k (PlanNodes n) = omega arith
 visits-counted k Never = omega arith
 
-asked : (b : Bounds) (k : Counts) (e : Event) (x : Kind) → passes b k e ≡ true → asks x e ≤ size b x
+pub asked : (b : Bounds) (k : Counts) (e : Event) (x : Kind) → passes b k e ≡ true → asks x e ≤ size b x
 asked b k (Need x n) y t = asks-le b y x n (leb-true n (size b x) t)
 asked b k (Within r n) y t = omega arith
 asked b k Hit y t = omega arith

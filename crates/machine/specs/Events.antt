@@ -10,7 +10,33 @@ use Rattle.cost.specs.declared.Reason.the-variants.{Column, Indent, Overflow, B
 pub data Kind : Type 0 where
   stack memo kept frontier plans visit depth output spans : Kind
 
--- the counts of SolveStats (its fit checks are always 0), and the visits
+-- the greatest size needed of each kind so far (document 02, change 10)
+pub record Needs : Type 0 where
+  pub stack : ℕ
+  pub memo : ℕ
+  pub kept : ℕ
+  pub frontier : ℕ
+  pub plans : ℕ
+  pub visit : ℕ
+  pub depth : ℕ
+  pub output : ℕ
+  pub spans : ℕ
+
+abbrev pub no-needs : Needs
+no-needs = record { stack = 0; memo = 0; kept = 0; frontier = 0; plans = 0; visit = 0; depth = 0; output = 0; spans = 0 }
+
+abbrev pub need-of : Needs → Kind → ℕ
+need-of q stack = q .stack
+need-of q memo = q .memo
+need-of q kept = q .kept
+need-of q frontier = q .frontier
+need-of q plans = q .plans
+need-of q visit = q .visit
+need-of q depth = q .depth
+need-of q output = q .output
+need-of q spans = q .spans
+
+-- the counts of SolveStats (its fit checks are always 0), and the visits; and the needs, which a refusal does not tell
 pub record Counts : Type 0 where
   pub work-items : ℕ
   pub memo-hits : ℕ
@@ -21,6 +47,7 @@ pub record Counts : Type 0 where
   pub memo-entries : ℕ
   pub plan-nodes : ℕ
   pub visits : ℕ
+  pub needs : Needs
 
 abbrev pub no-counts : Counts
 no-counts = record {
@@ -33,6 +60,7 @@ no-counts = record {
   memo-entries = 0;
   plan-nodes = 0;
   visits = 0;
+  needs = no-needs;
 }
 
 -- sizes and limits
@@ -144,8 +172,38 @@ needed (Entries n) = 0
 needed (PlanNodes n) = 0
 needed Never = 0
 
-abbrev counts : ℕ → ℕ → ℕ → ℕ → ℕ → ℕ → ℕ → ℕ → ℕ → Counts
-counts w h m g p t e n v = record {
+-- one of them is so much at least
+abbrev pub raised : Needs → Kind → ℕ → Needs
+raised q stack n = record { stack = max (q .stack) n; memo = q .memo; kept = q .kept; frontier = q .frontier; plans = q .plans; visit = q .visit; depth = q .depth; output = q .output; spans = q .spans }
+raised q memo n = record { stack = q .stack; memo = max (q .memo) n; kept = q .kept; frontier = q .frontier; plans = q .plans; visit = q .visit; depth = q .depth; output = q .output; spans = q .spans }
+raised q kept n = record { stack = q .stack; memo = q .memo; kept = max (q .kept) n; frontier = q .frontier; plans = q .plans; visit = q .visit; depth = q .depth; output = q .output; spans = q .spans }
+raised q frontier n = record { stack = q .stack; memo = q .memo; kept = q .kept; frontier = max (q .frontier) n; plans = q .plans; visit = q .visit; depth = q .depth; output = q .output; spans = q .spans }
+raised q plans n = record { stack = q .stack; memo = q .memo; kept = q .kept; frontier = q .frontier; plans = max (q .plans) n; visit = q .visit; depth = q .depth; output = q .output; spans = q .spans }
+raised q visit n = record { stack = q .stack; memo = q .memo; kept = q .kept; frontier = q .frontier; plans = q .plans; visit = max (q .visit) n; depth = q .depth; output = q .output; spans = q .spans }
+raised q depth n = record { stack = q .stack; memo = q .memo; kept = q .kept; frontier = q .frontier; plans = q .plans; visit = q .visit; depth = max (q .depth) n; output = q .output; spans = q .spans }
+raised q output n = record { stack = q .stack; memo = q .memo; kept = q .kept; frontier = q .frontier; plans = q .plans; visit = q .visit; depth = q .depth; output = max (q .output) n; spans = q .spans }
+raised q spans n = record { stack = q .stack; memo = q .memo; kept = q .kept; frontier = q .frontier; plans = q .plans; visit = q .visit; depth = q .depth; output = q .output; spans = max (q .spans) n }
+
+abbrev pub with-needs : Counts → Needs → Counts
+with-needs k q = record {
+  work-items = k .work-items;
+  memo-hits = k .memo-hits;
+  memo-misses = k .memo-misses;
+  candidates-generated = k .candidates-generated;
+  candidates-pruned = k .candidates-pruned;
+  peak-frontier = k .peak-frontier;
+  memo-entries = k .memo-entries;
+  plan-nodes = k .plan-nodes;
+  visits = k .visits;
+  needs = q;
+}
+
+-- a refusal's counts: without needs
+abbrev pub bare : Counts → Counts
+bare k = with-needs k no-needs
+
+abbrev counts : ℕ → ℕ → ℕ → ℕ → ℕ → ℕ → ℕ → ℕ → ℕ → Needs → Counts
+counts w h m g p t e n v q = record {
   work-items = w;
   memo-hits = h;
   memo-misses = m;
@@ -155,20 +213,21 @@ counts w h m g p t e n v = record {
   memo-entries = e;
   plan-nodes = n;
   visits = v;
+  needs = q;
 }
 
 -- the counts after it
 abbrev pub counted : Counts → Event → Counts
-counted k (Need x n) = k
+counted k (Need x n) = with-needs k (raised (k .needs) x n)
 counted k (Within r n) = k
-counted k Hit = counts (k .work-items + 1) (k .memo-hits + 1) (k .memo-misses) (k .candidates-generated) (k .candidates-pruned) (k .peak-frontier) (k .memo-entries) (k .plan-nodes) (k .visits)
-counted k Miss = counts (k .work-items + 1) (k .memo-hits) (k .memo-misses + 1) (k .candidates-generated) (k .candidates-pruned) (k .peak-frontier) (k .memo-entries) (k .plan-nodes) (k .visits)
-counted k Generated = counts (k .work-items + 1) (k .memo-hits) (k .memo-misses) (k .candidates-generated + 1) (k .candidates-pruned) (k .peak-frontier) (k .memo-entries) (k .plan-nodes) (k .visits)
-counted k Visit = counts (k .work-items) (k .memo-hits) (k .memo-misses) (k .candidates-generated) (k .candidates-pruned) (k .peak-frontier) (k .memo-entries) (k .plan-nodes) (k .visits + 1)
-counted k (Pruned n) = counts (k .work-items) (k .memo-hits) (k .memo-misses) (k .candidates-generated) (k .candidates-pruned + n) (k .peak-frontier) (k .memo-entries) (k .plan-nodes) (k .visits)
-counted k (Peak n) = counts (k .work-items) (k .memo-hits) (k .memo-misses) (k .candidates-generated) (k .candidates-pruned) (max (k .peak-frontier) n) (k .memo-entries) (k .plan-nodes) (k .visits)
-counted k (Entries n) = counts (k .work-items) (k .memo-hits) (k .memo-misses) (k .candidates-generated) (k .candidates-pruned) (k .peak-frontier) n (k .plan-nodes) (k .visits)
-counted k (PlanNodes n) = counts (k .work-items) (k .memo-hits) (k .memo-misses) (k .candidates-generated) (k .candidates-pruned) (k .peak-frontier) (k .memo-entries) n (k .visits)
+counted k Hit = counts (k .work-items + 1) (k .memo-hits + 1) (k .memo-misses) (k .candidates-generated) (k .candidates-pruned) (k .peak-frontier) (k .memo-entries) (k .plan-nodes) (k .visits) (k .needs)
+counted k Miss = counts (k .work-items + 1) (k .memo-hits) (k .memo-misses + 1) (k .candidates-generated) (k .candidates-pruned) (k .peak-frontier) (k .memo-entries) (k .plan-nodes) (k .visits) (k .needs)
+counted k Generated = counts (k .work-items + 1) (k .memo-hits) (k .memo-misses) (k .candidates-generated + 1) (k .candidates-pruned) (k .peak-frontier) (k .memo-entries) (k .plan-nodes) (k .visits) (k .needs)
+counted k Visit = counts (k .work-items) (k .memo-hits) (k .memo-misses) (k .candidates-generated) (k .candidates-pruned) (k .peak-frontier) (k .memo-entries) (k .plan-nodes) (k .visits + 1) (k .needs)
+counted k (Pruned n) = counts (k .work-items) (k .memo-hits) (k .memo-misses) (k .candidates-generated) (k .candidates-pruned + n) (k .peak-frontier) (k .memo-entries) (k .plan-nodes) (k .visits) (k .needs)
+counted k (Peak n) = counts (k .work-items) (k .memo-hits) (k .memo-misses) (k .candidates-generated) (k .candidates-pruned) (max (k .peak-frontier) n) (k .memo-entries) (k .plan-nodes) (k .visits) (k .needs)
+counted k (Entries n) = counts (k .work-items) (k .memo-hits) (k .memo-misses) (k .candidates-generated) (k .candidates-pruned) (k .peak-frontier) n (k .plan-nodes) (k .visits) (k .needs)
+counted k (PlanNodes n) = counts (k .work-items) (k .memo-hits) (k .memo-misses) (k .candidates-generated) (k .candidates-pruned) (k .peak-frontier) (k .memo-entries) n (k .visits) (k .needs)
 counted k Never = k
 
 -- ---- programs
@@ -203,7 +262,7 @@ pub data Out (A : Type 0) : Type 0 where
   done : Counts → A → Out A
   stop : Why → ℕ → Counts → Out A
 
--- up to the first event beyond its bound
+-- up to the first event beyond its bound; the needs are told of a result alone
 abbrev pub run : {A : Type 0} → Bounds → Counts → Prog A → Out A
 run b k (ret a) = done k a
-run b k (emit e p) = cond (passes b k e) (run b (counted k e) p) (stop (why e) (needed e) k)
+run b k (emit e p) = cond (passes b k e) (run b (counted k e) p) (stop (why e) (needed e) (bare k))

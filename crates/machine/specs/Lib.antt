@@ -8,5 +8,7 @@ pub mod Answer
 pub mod Programs
 pub mod Larger
 pub mod Enough
+pub mod Just
+pub mod PageNeeds
 pub mod Balance
 pub mod Cases

@@ -3,7 +3,7 @@ use mathlib.Core.Path.{_≡_, refl, sym, ap, _∙_}
 use mathlib.Core.Bool.{Bool, true, false, cond}
 use Prim.Native.Nat.{ℕ, suc, _+_}
 use native.Mathlib.Omega.{arith}
-use Rattle.machine.specs.Events.{Prog, ret, emit, _>>=_, Why, Counts, Bounds, Out, done, stop, run, passes, counted, why, needed}
+use Rattle.machine.specs.Events.{Prog, ret, emit, _>>=_, Why, Counts, Bounds, Out, done, stop, run, passes, counted, why, needed, bare}
 
 abbrev pub value : {A : Type 0} → Prog A → A
 value (ret a) = a
@@ -55,7 +55,7 @@ cond-then b false x y z f h q = refl
 pub run-bind : {A B : Type 0} (b : Bounds) (k : Counts) (m : Prog A) (f : A → Prog B) → run b k (m >>= f) ≡ and-then b (run b k m) f
 run-bind b k (ret a) f = refl
 run-bind b k (emit e p) f =
-    cond-then b (passes b k e) (run b (counted k e) (p >>= f)) (run b (counted k e) p) (stop (why e) (needed e) k) f (run-bind b (counted k e) p f) refl
+    cond-then b (passes b k e) (run b (counted k e) (p >>= f)) (run b (counted k e) p) (stop (why e) (needed e) (bare k)) f (run-bind b (counted k e) p f) refl
 
 pub done-not-stop : {A : Type 0} {P : Type 0} {w : Why} {n : ℕ} {k j : Counts} {a : A} → _≡_ {A = Out A} (stop w n k) (done j a) → P
 done-not-stop e = let z : _≡_ {A = ℕ} 0 1 = cc in absurd (omega arith)
@@ -68,13 +68,13 @@ Passes b k (emit e p) = (passes b k e ≡ true) × Passes b (counted k e) p
 
 pub run-passes : {A : Type 0} (b : Bounds) (k : Counts) (m : Prog A) → Passes b k m → run b k m ≡ done (counts-after k m) (value m)
 run-passes b k (ret a) h = refl
-run-passes b k (emit e p) h = ap (λ t. cond t (run b (counted k e) p) (stop (why e) (needed e) k)) (h .0) ∙ run-passes b (counted k e) p (h .1)
+run-passes b k (emit e p) h = ap (λ t. cond t (run b (counted k e) p) (stop (why e) (needed e) (bare k))) (h .0) ∙ run-passes b (counted k e) p (h .1)
 
 pub done-passes : {A : Type 0} (b : Bounds) (k : Counts) (m : Prog A) {j : Counts} {a : A} → run b k m ≡ done j a → Passes b k m
 done-passes b k (ret x) h = tt
 done-passes {A} b k (emit e p) {j} {a} h = go (passes b k e) refl h (λ q. done-passes b (counted k e) p q)
   where
-    go : (t : Bool) → passes b k e ≡ t → cond t (run b (counted k e) p) (stop (why e) (needed e) k) ≡ done j a → (run b (counted k e) p ≡ done j a → Passes b (counted k e) p)
+    go : (t : Bool) → passes b k e ≡ t → cond t (run b (counted k e) p) (stop (why e) (needed e) (bare k)) ≡ done j a → (run b (counted k e) p ≡ done j a → Passes b (counted k e) p)
         → (passes b k e ≡ true) × Passes b (counted k e) p
     go true q r f = (q, f r)
     go false q r f = done-not-stop r

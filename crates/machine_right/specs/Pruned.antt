@@ -17,7 +17,7 @@ use Rattle.layout.specs.Layout.{Plan, blank, put, line, join, mark, fee, page}
 use Rattle.layout.specs.Table.{Node, Empty, Break, HardLine, Text, Seq, Fill, Group, Align, Nest, Choice, Annotate, Penalty}
 use Rattle.layout.specs.Frontier.{covers, any, keep, cons-if}
 use Rattle.layout.specs.Frontier.{present as presented}
-use Rattle.machine.specs.Events.{Bounds, Counts, no-counts, Event, Visit, Generated, Pruned, passes, counted, why, needed, Prog, ret, emit, _>>=_, Out, done, stop, run}
+use Rattle.machine.specs.Events.{Bounds, Counts, no-counts, Event, Need, Visit, Generated, Pruned, Kind, passes, counted, why, needed, bare, Prog, ret, emit, _>>=_, Out, done, stop, run}
 use Rattle.machine.specs.Balance.{counts-of, counts-in}
 use Rattle.machine.specs.Model.{Prepared, ExactChoice, PlanNode, PlanAnnotate, PlanPenalty, Candidate, Scratch, within-range}
 use Rattle.machine.specs.Model.{Task, Eval, CompleteAlias, CompleteUnion, CompleteChoiceSet, CompleteAnnotate, CompletePenalty, ContinueSequence, CompleteSequenceRight, State, blank-state, with-tasks, Got}
@@ -44,9 +44,12 @@ fair-run : {A : Type 0} {W : Counts → A → Type 0} (b : Bounds) {k : Counts} 
 fair-run b h (ends w) = h _ _ w
 fair-run b {k} h (goes {e = e} {p = p} f q) = go (passes b k e) (fair-run b h q)
   where
-    go : (t : Bool) → Fair (counts-of (run b (counted k e) p)) → Fair (counts-of (cond t (run b (counted k e) p) (stop (why e) (needed e) k)))
+    go : (t : Bool) → Fair (counts-of (run b (counted k e) p)) → Fair (counts-of (cond t (run b (counted k e) p) (stop (why e) (needed e) (bare k))))
     go true r = r
-    go false r = f
+    go false r = record { fewer = f .fewer }
+
+abbrev FairEnd : {A : Type 0} → Counts → A → Type 0
+FairEnd k a = Fair k
 
 -- those pruned and those in the builder were generated
 record Held (k : Counts) (S : State) : Type 0 where
@@ -130,7 +133,7 @@ begun h = record { held = omega (arith, h .held) }
 
 finish-gets : Gets finish-builder
 unfolding finish-builder
-finish-gets k S h = goes (fair h) (goes (fair h) (goes (fair h) (ends (record { held = h .held }))))
+finish-gets k S h = goes (fair h) (goes (record { fewer = fair h .fewer }) (goes (record { fewer = fair h .fewer }) (ends (record { held = h .held }))))
 
 range-keeps : (r : CandidateRange) → Keeps (present-range r)
 unfolding present-range
@@ -155,7 +158,7 @@ wrap-gets r w a k S h = along (wrapped-keeps w a _ k _ (begun h)) finish-gets
 
 complete-keeps : (q : MemoKey) (r : CandidateRange) → Keeps (complete-node q r)
 unfolding complete-node memo-insert push-exact-result
-complete-keeps q r k S h = goes (fair h) (goes (fair h) (goes (record { fewer = fair h .fewer }) (ends (record { held = h .held }))))
+complete-keeps q r k S h = goes (fair h) (goes (record { fewer = fair h .fewer }) (goes (record { fewer = fair h .fewer }) (ends (record { held = h .held }))))
 
 joined-keeps : (l : Candidate) (cs : List Candidate) → Keeps (push-joined l cs)
 unfolding push-joined
@@ -345,41 +348,42 @@ module _ (R : Rules) (P : Prepared) where
   unfolding rest
   rest-keeps k S h = all-keep (evaluated R P (P .depth)) (evaluated-keeps (P .depth)) _ k S h
 
-  abbrev FairAt : {A : Type 0} → Counts → A → Type 0
-  FairAt k a = Fair k
-
-  best-fair : (cs : List Candidate) (k : Counts) (S : State) → Held k S → Along (FairAt {A = Solved}) k (best-of cs S)
+  best-fair : (cs : List Candidate) (k : Counts) (S : State) → Held k S → Along (FairEnd {A = Solved}) k (best-of cs S)
   best-fair [] k S h = goes (fair h) (ends (fair h))
   best-fair (c ∷ cs) k S h = goes (fair h) (ends (record { fewer = fair h .fewer }))
 
-  solve-fair : Along (FairAt {A = Solved}) no-counts (solve R P)
+  solve-fair : Along (FairEnd {A = Solved}) no-counts (solve R P)
   unfolding solve solve-tasks take-best
   solve-fair =
       along (along (task-keeps _ no-counts blank-state (record { held = omega arith })) (λ j S h. rest-keeps j S h)) (λ j S h. along (pop-gets j S h) (λ i G h₁. best-fair (within-range (G .state .retained) (G .range)) i (G .state) h₁))
 
-append-fair : (at n : ℕ) (k : Counts) → Fair k → Along (λ j (u : Unit {0}). Fair j) k (append-each at n)
+-- a need and a visit leave what is fair; what follows holds from any such counts
+need-fair : {A : Type 0} (x : Kind) (n : ℕ) (p : Prog A) (k : Counts) → Fair k → ((j : Counts) → Fair j → Along FairEnd j p) → Along FairEnd k (emit (Need x n) p)
+need-fair x n p k h next = goes h (next _ (record { fewer = h .fewer }))
+
+seen-fair : {A : Type 0} (p : Prog A) (k : Counts) → Fair k → ((j : Counts) → Fair j → Along FairEnd j p) → Along FairEnd k (emit Visit p)
+seen-fair p k h next = goes h (next _ (record { fewer = h .fewer }))
+
+append-fair : (at n : ℕ) (k : Counts) → Fair k → Along (FairEnd {A = Unit {0}}) k (append-each at n)
 unfolding append-each
 append-fair at zero k h = ends h
-append-fair at (suc n) k h = goes h (append-fair (at + 1) n k h)
+append-fair at (suc n) k h = need-fair _ _ _ k h (append-fair (at + 1) n)
 
-ticked : {k : Counts} → Fair k → Fair (counted k Visit)
-ticked h = record { fewer = h .fewer }
-
-visit-fair : (p : Plan) (v d at n : ℕ) (k : Counts) → Fair k → Along (λ j (u : Unit {0}). Fair j) k (visit-plan p v d at n)
+visit-fair : (p : Plan) (v d at n : ℕ) (k : Counts) → Fair k → Along (FairEnd {A = Unit {0}}) k (visit-plan p v d at n)
 unfolding visit-plan
-visit-fair blank v d at n k h = goes h (ends (ticked h))
-visit-fair (put t) v d at n k h = goes h (goes (ticked h) (ends (ticked h)))
-visit-fair (line i) v d at n k h = goes h (append-fair at (i + 1) _ (ticked h))
+visit-fair blank v d at n k h = seen-fair _ k h (λ j f. ends f)
+visit-fair (put t) v d at n k h = seen-fair _ k h (λ j f. need-fair _ _ _ j f (λ i g. ends g))
+visit-fair (line i) v d at n k h = seen-fair _ k h (append-fair at (i + 1))
 visit-fair (join p q) v d at n k h =
-    goes h (goes (ticked h) (goes (ticked h) (along (visit-fair p (v + 1) d at n _ (ticked h)) (λ j u f. visit-fair q v d (at + length (page p)) (n + marks p) j f))))
+    seen-fair _ k h (λ j f. need-fair _ _ _ j f (λ i g. need-fair _ _ _ i g (λ j f. along (visit-fair p (v + 1) d at n j f) (λ l u e. visit-fair q v d (at + length (page p)) (n + marks p) l e))))
 visit-fair (mark a p) v d at n k h =
-    goes h (goes (ticked h) (goes (ticked h) (goes (ticked h) (goes (ticked h) (along (visit-fair p (v + 1) (d + 1) at (n + 1) _ (ticked h)) (λ j u f. goes f (ends (ticked f))))))))
-visit-fair (fee a p) v d at n k h = goes h (goes (ticked h) (visit-fair p v d at n _ (ticked h)))
+    seen-fair _ k h (λ j f. need-fair _ _ _ j f (λ i g. need-fair _ _ _ i g (λ j f. need-fair _ _ _ j f (λ i g. need-fair _ _ _ i g (λ j f. along (visit-fair p (v + 1) (d + 1) at (n + 1) j f) (λ l u e. seen-fair _ l e (λ j f. ends f)))))))
+visit-fair (fee a p) v d at n k h = seen-fair _ k h (λ j f. need-fair _ _ _ j f (visit-fair p v d at n))
 
 module _ (R : Rules) (P : Prepared) where
-  render-fair : Along (λ j (page : Rendered). Fair j) no-counts (render R P)
+  render-fair : Along (FairEnd {A = Rendered}) no-counts (render R P)
   unfolding render materialize
-  render-fair = along (solve-fair R P) (λ j core f. goes f (along (visit-fair _ 0 0 0 0 j f) (λ i u g. ends g)))
+  render-fair = along (solve-fair R P) (λ j core f. need-fair _ _ _ j f (λ l e. along (visit-fair _ 0 0 0 0 l e) (λ i u g. ends g)))
 
   pub fair-answer : (b : Bounds) → Fair (counts-in (answer R P b))
   unfolding answer

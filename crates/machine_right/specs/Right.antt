@@ -16,7 +16,7 @@ use Rattle.layout.specs.Reading.{document, document-reads}
 use Rattle.layout.specs.Telescope.{price-is}
 use Rattle.layout.specs.Answers.{front-answer}
 use Rattle.machine.specs.Numbers.{MachineNumbered, listed, indent, cost}
-use Rattle.machine.specs.Events.{Bounds, Counts, no-counts, Kind, stack, memo, kept, frontier, plans, visit, depth, output, spans, passes, counted, needed, why, Why, domain, work-spent, too-small, visits-spent, impossible, number, Prog, Out, done, stop, run}
+use Rattle.machine.specs.Events.{Bounds, Counts, no-counts, Kind, stack, memo, kept, frontier, plans, visit, depth, output, spans, passes, counted, needed, why, bare, Why, domain, work-spent, too-small, visits-spent, impossible, number, Prog, Out, done, stop, run}
 use Rattle.machine.specs.Events.{Event, Need, Within, Hit, Miss, Generated, Visit, Pruned, Peak, Entries, PlanNodes, Never}
 use Rattle.machine.specs.Model.{Prepared, plan-at}
 use Rattle.machine.specs.Solve.{Solved}
@@ -59,7 +59,7 @@ pub post-run : {A : Type 0} {Q : A → Type 0} (b : Bounds) (k : Counts) {m : Pr
 post-run b k (holds-of h) = ran h
 post-run {Q = Q} b k (says {e = e} {p = p} c h) = go (passes b k e) refl (post-run b (counted k e) h)
   where
-    go : (t : Bool) → passes b k e ≡ t → Ran Q (run b (counted k e) p) → Ran Q (cond t (run b (counted k e) p) (stop (why e) (needed e) k))
+    go : (t : Bool) → passes b k e ≡ t → Ran Q (run b (counted k e) p) → Ran Q (cond t (run b (counted k e) p) (stop (why e) (needed e) (bare k)))
     go true q r = r
     go false q r = halted (why-real b k e c q)
 

@@ -1,7 +1,7 @@
 -- The first pass: what holds between its turns, and what it comes to.
 use mathlib.Core.Path.{_≡_, refl, sym, ap, subst, _∙_}
 use mathlib.Core.List.{List, [], _∷_, append-nil}
-use Prim.Native.Nat.{ℕ, zero, suc, _+_, _≤_, _<_}
+use Prim.Native.Nat.{ℕ, zero, suc, _+_, _≤_, _<_, max}
 use native.Mathlib.Omega.{arith}
 use native.Mathlib.Numerals.{add-one}
 use lib.ListN.{length, length-append, set, replicate, length-replicate}
@@ -10,8 +10,9 @@ use mathlib.Core.Option.{none}
 use Rattle.file_tables.specs.Tables.{byte-length, byte-start}
 use Rattle.layout.specs.Layout.{Plan, page}
 use Rattle.layout.specs.Spans.{spans}
-use Rattle.machine.specs.Events.{no-counts, visit, Need, ret, emit, _>>_}
+use Rattle.machine.specs.Events.{no-counts, visit, depth, Need, ret, emit, _>>_}
 use Rattle.machine.specs.Materializer.{marks, visit-plan, materialize}
+use Rattle.machine.specs.Enough.{peak}
 use Rattle.materialize.specs.declared.Capacity.{Capacity}
 use Rattle.materialize.specs.declared.Exhausted.{Exhausted}
 use Rattle.materialize.specs.declared.Exhausted.the-variants.{Visit}
@@ -70,6 +71,13 @@ pub record Along (c : Capacity) (o : Around) (P X : List Row) (bytes : List ℕ)
   pub sized : w .at + length (pages (works (plan P X bytes) S)) ≡ length (page (plan P X bytes root))
   pub counted : w .spans + marks-in (works (plan P X bytes) S) ≡ marks (plan P X bytes root)
 
+-- so many items and so many open spans were the most so far
+pub record Reaching (P X : List Row) (bytes : List ℕ) (root : ℕ) (S : List ℕ) (w : Walk) (high deep : ℕ) : Type 0 where
+  pub top-le : w .top ≤ high
+  pub depth-le : w .depth ≤ deep
+  pub highest : max high (peak visit (ahead (works (plan P X bytes) S) w)) ≡ peak visit (materialize (plan P X bytes root))
+  pub deepest : max deep (peak depth (ahead (works (plan P X bytes) S) w)) ≡ peak depth (materialize (plan P X bytes root))
+
 whole : (p : Plan) → materialize p ≡ emit (Need visit 1) (visit-plan p 0 0 0 0)
 unfolding materialize
 whole p = refl
@@ -107,20 +115,53 @@ along-step {P = P} {X = X} {bytes = bytes} {U = U} {a = a} h g =
       counted = m .marked ∙ h .counted;
     }
 
+pub reaching-begin : (P X : List Row) (bytes : List ℕ) (root : ℕ) (e : List ℕ) → 0 < length e → Reaching P X bytes root (pile (set e 0 (root + 1)) 1) begin 1 0
+unfolding peak
+reaching-begin P X bytes root e h =
+    let p = plan P X bytes root in
+    rw (first-pile e root h)
+    (record {
+      top-le = omega arith;
+      depth-le = omega arith;
+      highest = rw (whole p, then-nothing (visit-plan p 0 0 0 0)) refl;
+      deepest = rw (whole p, then-nothing (visit-plan p 0 0 0 0)) refl;
+    })
+
+-- what was the most, and what there is now
+further : (a b x p q : ℕ) → a ≤ x → max a p ≡ max (max a b) q → max x p ≡ max (max x b) q
+further a b x p q h e = omega (arith, h, e)
+
+pub reaching-step : {c : Capacity} {o : Around} {P X : List Row} {bytes : List ℕ} {root : ℕ} {S U : List ℕ} {w z : Walk} {a : Act} {high deep x y : ℕ}
+    → Reaching P X bytes root S w high deep → Walked c o P X bytes S w U z a → x ≡ max high (z .top) → y ≡ max deep (z .depth) → Reaching P X bytes root U z x y
+reaching-step {P = P} {X = X} {bytes = bytes} {w = w} {z = z} {high = high} {deep = deep} h g i j =
+    let m = g .moved in
+    rw (i, j)
+    (record {
+      top-le = omega arith;
+      depth-le = omega arith;
+      highest = sym (further (w .top) (z .top) high _ _ (h .top-le) (m .highest)) ∙ h .highest;
+      deepest = sym (further (w .depth) (z .depth) deep _ _ (h .depth-le) (m .deepest)) ∙ h .deepest;
+    })
+
 -- ---- what it comes to
 
-pub along-end : (c : Capacity) (P X : List Row) (bytes : List ℕ) (root : ℕ) (e : List ℕ) (w : Walk) → ((o : Around) → Along c o P X bytes root (pile e (w .top)) w) → w .top ≡ 0
-    → Answered c (plan P X bytes root) (Page (w .at) (w .spans) (w .visits))
-unfolding ran
-along-end c P X bytes root e w h q =
+pub along-end : (c : Capacity) (P X : List Row) (bytes : List ℕ) (root : ℕ) (e : List ℕ) (w : Walk) (high deep : ℕ) → ((o : Around) → Along c o P X bytes root (pile e (w .top)) w)
+    → Reaching P X bytes root (pile e (w .top)) w high deep → w .top ≡ 0 → Answered c (plan P X bytes root) (Page (w .at) (w .spans) (w .visits) high deep)
+unfolding ran peak
+along-end c P X bytes root e w high deep h t q =
     let k : (o : Around) → Along c o P X bytes root [] w = λ o. subst (λ (n : ℕ). Along c o P X bytes root (pile e n) w) q (h o) in
     let f : w .at ≡ length (page (plan P X bytes root)) = omega (arith, k some-around .sized) in
     let g : w .spans ≡ marks (plan P X bytes root) = omega (arith, k some-around .counted) in
-    record { answer = λ o. sym (k o .leads); sized = (f, g ∙ sym (spans-length (plan P X bytes root) 0 none 0)) }
+    let y : Reaching P X bytes root [] w high deep = subst (λ (n : ℕ). Reaching P X bytes root (pile e n) w high deep) q t in
+    record {
+      answer = λ o. sym (k o .leads);
+      sized = (f, g ∙ sym (spans-length (plan P X bytes root) 0 none 0));
+      needing = (omega (arith, y .highest), omega (arith, y .deepest));
+    }
 
 pub along-stop : (c : Capacity) (P X : List Row) (bytes : List ℕ) (root : ℕ) (S : List ℕ) (w : Walk) (n : Exhausted) (m k : ℕ) → ((o : Around) → Along c o P X bytes root S w)
     → ((o : Around) → ran c o (w .visits) (ahead (works (plan P X bytes) S) w) ≡ told (o .counts) (Refused n m k)) → Answered c (plan P X bytes root) (Refused n m k)
-along-stop c P X bytes root S w n m k h q = record { answer = λ o. sym (h o .leads ∙ q o); sized = tt }
+along-stop c P X bytes root S w n m k h q = record { answer = λ o. sym (h o .leads ∙ q o); sized = tt; needing = tt }
 
 pub none-fits : (c : Capacity) (p : Plan) → c .visit ≡ 0 → Answered c p (Refused Visit 1 0)
-none-fits c p h = record { answer = λ o. sym (ap (ran c o 0) (whole p) ∙ need-stop c o visit 0 1 (visit-plan p 0 0 0 0) (omega arith)); sized = tt }
+none-fits c p h = record { answer = λ o. sym (ap (ran c o 0) (whole p) ∙ need-stop c o visit 0 1 (visit-plan p 0 0 0 0) (omega arith)); sized = tt; needing = tt }

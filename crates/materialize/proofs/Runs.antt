@@ -9,9 +9,10 @@ use lib.ListN.{length}
 use borrow.Author.Tests.{le-ltb, lt-ltb, le-leb, lt-leb, leb-true, leb-false}
 use Rattle.layout.specs.Document.{Word}
 use Rattle.layout.specs.Layout.{Plan, blank, put, line, join, mark, fee, page}
-use Rattle.machine.specs.Events.{Kind, visit, depth, output, spans, Need, Visit, Prog, emit, _>>_, say, stop, size, too-small}
+use Rattle.machine.specs.Events.{Kind, visit, depth, output, spans, no-needs, raised, Need, Visit, Prog, emit, _>>_, say, stop, size, too-small}
 use Rattle.machine.specs.Programs.{bind-assoc}
 use Rattle.machine.specs.Materializer.{marks, append-each, visit-plan}
+use Rattle.machine.specs.Just.{needless}
 use Rattle.materialize.specs.declared.Capacity.{Capacity}
 use Rattle.materialize.specs.declared.Exhausted.the-variants.{Output, Visits}
 use Rattle.materialize.specs.declared.Measured.the-variants.{Refused}
@@ -65,7 +66,7 @@ module _ (c : Capacity) (o : Around) where
 
   pub need-go : (x : Kind) (v n : ℕ) (p : Program) → n ≤ size (limits c (o .bounds)) x → ran c o v (emit (Need x n) p) ≡ ran c o v p
   unfolding ran
-  need-go x v n p h = rw (le-leb n (size (limits c (o .bounds)) x) h)
+  need-go x v n p h = rw (le-leb n (size (limits c (o .bounds)) x) h) (needless (limits c (o .bounds)) (with-visits (o .counts) v) (raised no-needs x n) p)
 
   pub need-stop : (x : Kind) (v n : ℕ) (p : Program) → size (limits c (o .bounds)) x < n
       → ran c o v (emit (Need x n) p) ≡ stop (too-small x) n (with-visits (o .counts) v)

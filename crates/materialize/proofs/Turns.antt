@@ -155,7 +155,7 @@ module _ (c : Capacity) (o : Around) (P X : List Row) (bytes e : List ℕ) (w : 
       let s = sound p in
       let d : w .depth ≡ suc (exits (pile e t)) = depth-top p in
       record {
-        moved = rw (works-top p g) (moves-exit c o bytes (under g e t) w (p .left) t (omega arith));
+        moved = rw (works-top p g) (moves-exit c o bytes (under g e t) w (p .left) t (under-length g e t) (p .top-is) (omega arith));
         sound = record {
           top-le = omega (arith, p .top-is, s .top-le);
           at-le = s .at-le;
@@ -196,7 +196,7 @@ module _ (c : Capacity) (o : Around) (P X : List Row) (bytes e : List ℕ) (w : 
 
     pub empty-turned : nodeAt P i ≡ Empty → After e (Went (step w t) Pass)
     empty-turned q =
-        went Empty q (pile e t) (step w t) Pass (moves-blank c o bytes (under g e t) w (p .left) t)
+        went Empty q (pile e t) (step w t) Pass (moves-blank c o bytes (under g e t) w (p .left) t (under-length g e t) (p .top-is))
         (same-sound (step w t) (omega (arith, room)) (sound p .at-le) refl refl refl)
 
     module _ (ib : InBytes X bytes) (u : TextId) (q : nodeAt P i ≡ Text u) where
@@ -219,7 +219,7 @@ module _ (c : Capacity) (o : Around) (P X : List Row) (bytes e : List ℕ) (w : 
               → After e (cond b (Went (at-byte (step w t) (w .at + l)) (Put s l)) (Stopped Output (w .at + l) (w .visits + 1)))
           go true h =
               let m : w .at + l ≤ c .output = leb-true _ _ h in
-              went (Text u) q (pile e t) _ (Put s l) (moves-put c o bytes (under g e t) w (p .left) t s l (text-at X bytes (u .0)) inside refl text-length m)
+              went (Text u) q (pile e t) _ (Put s l) (moves-put c o bytes (under g e t) w (p .left) t (under-length g e t) (p .top-is) s l (text-at X bytes (u .0)) inside refl text-length m)
               (same-sound _ (omega (arith, room)) m refl refl refl)
           go false h =
               seen (Text u) q _ (ap (ran c o (w .visits)) (plan-put _ _ _ _ _ _) ∙ (visit-go c o (w .visits) _ (p .left)
@@ -232,7 +232,7 @@ module _ (c : Capacity) (o : Around) (P X : List Row) (bytes e : List ℕ) (w : 
             → After e (cond b (Went (at-byte (step w t) (w .at + n + 1)) (Line n)) (Stopped Output (c .output + 1) (w .visits + 1)))
         go true h =
             let m : w .at + n + 1 ≤ c .output = leb-true _ _ h in
-            went (Newline n) q (pile e t) _ (Line n) (moves-line c o bytes (under g e t) w (p .left) t n (omega arith)) (same-sound _ (omega (arith, room)) m refl refl refl)
+            went (Newline n) q (pile e t) _ (Line n) (moves-line c o bytes (under g e t) w (p .left) t (under-length g e t) (p .top-is) n (omega arith)) (same-sound _ (omega (arith, room)) m refl refl refl)
         go false h =
             let m : c .output < w .at + n + 1 = leb-false _ _ h in
             seen (Newline n) q _ (ap (ran c o (w .visits)) (plan-line _ _ _ _ _ n) ∙ (visit-go c o (w .visits) _ (p .left)
@@ -251,7 +251,7 @@ module _ (c : Capacity) (o : Around) (P X : List Row) (bytes e : List ℕ) (w : 
             let f = fine-at p (Concat l r) q in
             let n : length (under g e t) + 2 ≤ c .visit = rw (under-length g e t) h in
             rw (two (l .0 + 1) (r .0 + 1) (omega (arith, p .standing .visit-lent)), add-one (l .0), add-one (r .0))
-            (went (Concat l r) q (suc (l .0) ∷ suc (r .0) ∷ pile e t) (step w (t + 2)) Pass (moves-join c o bytes (under g e t) w (p .left) (g (l .0)) (g (r .0)) (t + 2) n)
+            (went (Concat l r) q (suc (l .0) ∷ suc (r .0) ∷ pile e t) (step w (t + 2)) Pass (moves-join c o bytes (under g e t) w (p .left) t (under-length g e t) (p .top-is) (g (l .0)) (g (r .0)) n)
             (record {
               top-le = h;
               at-le = sound p .at-le;
@@ -292,7 +292,7 @@ module _ (c : Capacity) (o : Around) (P X : List Row) (bytes e : List ℕ) (w : 
           let n : length (under g e t) + 2 ≤ c .visit = rw (under-length g e t) h in
           let y : w .depth ≡ exits (pile e t) = depth-top p in
           rw (two (x .0 + 1) 0 (omega (arith, p .standing .visit-lent)), add-one (x .0))
-          (went (Annotate k x) q (suc (x .0) ∷ 0 ∷ pile e t) _ (Open k) (moves-mark c o bytes (under g e t) w (p .left) k (g (x .0)) (t + 2) n s d)
+          (went (Annotate k x) q (suc (x .0) ∷ 0 ∷ pile e t) _ (Open k) (moves-mark c o bytes (under g e t) w (p .left) t (under-length g e t) (p .top-is) k (g (x .0)) n s d)
           (record {
             top-le = h;
             at-le = sound p .at-le;
@@ -327,7 +327,7 @@ module _ (c : Capacity) (o : Around) (P X : List Row) (bytes e : List ℕ) (w : 
         let f = fine-at p (Penalty a x) q in
         let n : length (under g e t) + 1 ≤ c .visit = rw (under-length g e t) room in
         rw (pile-one e t (x .0 + 1) (omega (arith, room, p .standing .visit-lent)), add-one (x .0))
-        (went (Penalty a x) q (suc (x .0) ∷ pile e t) (step w (t + 1)) Pass (moves-fee c o bytes (under g e t) w (p .left) a (g (x .0)) (t + 1) n)
+        (went (Penalty a x) q (suc (x .0) ∷ pile e t) (step w (t + 1)) Pass (moves-fee c o bytes (under g e t) w (p .left) t (under-length g e t) (p .top-is) a (g (x .0)) n)
         (record {
           top-le = room;
           at-le = sound p .at-le;

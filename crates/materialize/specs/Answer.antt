@@ -5,8 +5,10 @@ use Prim.Native.Nat.{ℕ, _≤_, _<_, _^_}
 use lib.ListN.{length, drop}
 use Rattle.layout.specs.Layout.{Plan, page}
 use Rattle.layout.specs.Spans.{spans}
-use Rattle.machine.specs.Events.{Counts, Why, too-small, visits-spent, Out, done, stop, run}
+use Rattle.machine.specs.Events.{Counts, no-needs, Why, too-small, visits-spent, Out, done, stop, run}
 use Rattle.machine.specs.Events.{visit as visit-size, depth as depth-size, output as output-size, spans as spans-size}
+use Rattle.machine.specs.Materializer.{materialize}
+use Rattle.machine.specs.Enough.{peak}
 use Rattle.materialize.specs.declared.Capacity.{Capacity}
 use Rattle.materialize.specs.declared.Exhausted.{Exhausted}
 use Rattle.materialize.specs.declared.Exhausted.the-variants.{Visit, Depth, Output, Spans, Visits}
@@ -22,7 +24,7 @@ why-of Output = too-small output-size
 why-of Spans = too-small spans-size
 why-of Visits = visits-spent
 
--- the solver's counts, with so many visits
+-- the solver's counts, with so many visits; needs apart
 abbrev pub with-visits : Counts → ℕ → Counts
 with-visits k v = record {
   work-items = k .work-items;
@@ -34,17 +36,23 @@ with-visits k v = record {
   memo-entries = k .memo-entries;
   plan-nodes = k .plan-nodes;
   visits = v;
+  needs = no-needs;
 }
 
 -- what a run comes to where this is the answer: the end, or why it stops, the needed size, and the counts there
 abbrev pub told : Counts → Measured → Out (Unit {0})
-told k (Page n m v) = done (with-visits k v) tt
+told k (Page n m v x d) = done (with-visits k v) tt
 told k (Refused e needed v) = stop (why-of e) needed (with-visits k v)
 
 -- a page's length and number of spans are the layout's
 abbrev pub Sized : Plan → Measured → Type 0
-Sized p (Page n m v) = (n ≡ length (page p)) × (m ≡ length (spans p))
+Sized p (Page n m v x d) = (n ≡ length (page p)) × (m ≡ length (spans p))
 Sized p (Refused e needed v) = Unit {0}
+
+-- the most items on the visit stack and the most open spans are what the materializer needs of them (document 02, change 10)
+abbrev pub Needing : Plan → Measured → Type 0
+Needing p (Page n m v x d) = (x ≡ peak visit-size (materialize p)) × (d ≡ peak depth-size (materialize p))
+Needing p (Refused e needed v) = Unit {0}
 
 -- xs lies over the front of l, and what is past it stays
 abbrev pub over : {A : Type 0} → List A → List A → List A

@@ -3,7 +3,7 @@ use mathlib.Core.Path.{_≡_}
 use mathlib.Core.Bool.{Bool, false, cond}
 use mathlib.Core.Option.{Option, none, some}
 use mathlib.Core.List.{List, [], _∷_, _++_, map}
-use Prim.Native.Nat.{ℕ, zero, suc, _+_, _-_, _≤_, _<_, _^_}
+use Prim.Native.Nat.{ℕ, zero, suc, _+_, _-_, _≤_, _<_, _^_, max}
 use lib.Dec.{leb}
 use lib.ListN.{length, getD, set, take, drop, replicate}
 use Rattle.file_tables.specs.declared.AnnotationId.{AnnotationId}
@@ -11,9 +11,11 @@ use Rattle.layout.specs.Layout.{Plan, page}
 use Rattle.layout.specs.Spans.{spans-from}
 use Rattle.plan.specs.Arena.{arena}
 use Rattle.plan.specs.Layouts.{Ranked}
-use Rattle.machine.specs.Events.{Bounds, Counts, Prog, ret, emit, _>>_, Out, done, run}
+use Rattle.machine.specs.Events.{Bounds, Counts, visit, depth, Prog, ret, emit, _>>_, Out, done, run}
 use Rattle.machine.specs.Events.{Visit as VisitEvent}
 use Rattle.machine.specs.Materializer.{marks, visit-plan, materialize}
+use Rattle.machine.specs.Enough.{peak}
+use Rattle.machine.specs.Just.{bare-out}
 use Rattle.materialize.specs.declared.Capacity.{Capacity}
 use Rattle.materialize.specs.declared.Exhausted.the-variants.{Visit, Depth, Output, Spans}
 use Rattle.materialize.specs.declared.Walk.{Walk}
@@ -25,7 +27,7 @@ use Rattle.materialize.specs.declared.Measured.{Measured}
 use Rattle.materialize.specs.declared.Measured.the-variants.{Refused}
 use Rattle.materialize.specs.Rows.{Row, row-of}
 use Rattle.materialize.specs.Texts.{layout, InBytes}
-use Rattle.materialize.specs.Answer.{with-visits, told, Sized, Small}
+use Rattle.materialize.specs.Answer.{with-visits, told, Sized, Needing, Small}
 
 -- ---- runs
 
@@ -53,9 +55,9 @@ limits c b = record {
   visit-limit = c .«visit_limit»;
 }
 
--- what comes of a program after v visits
+-- what comes of a program after v visits, without its needs
 unfoldable pub ran : Capacity → Around → ℕ → Prog (Unit {0}) → Out (Unit {0})
-ran c o v p = run (limits c (o .bounds)) (with-visits (o .counts) v) p
+ran c o v p = bare-out (run (limits c (o .bounds)) (with-visits (o .counts) v) p)
 
 -- ---- the visit stack
 
@@ -242,7 +244,7 @@ Room (Line i) n w z = (z .spans ≡ w .spans) × (z .depth ≡ w .depth)
 Room (Open k) n w z = (z .spans ≡ w .spans + 1) × (z .depth ≡ w .depth + 1)
 Room Close n w z = (z .spans ≡ w .spans) × (w .depth ≡ z .depth + 1)
 
--- from the works W the walk has come to U by the act a
+-- from the works W the walk has come to U by the act a; of visit stack and open spans it needs no more than they hold then, or than is needed further on
 pub record Moved (c : Capacity) (o : Around) (bytes : List ℕ) (W : List Work) (w : Walk) (U : List Work) (z : Walk) (a : Act) : Type 0 where
   pub leads : ran c o (w .visits) (ahead W w) ≡ ran c o (z .visits) (ahead U z)
   pub put : pages W ≡ puts bytes a ++ pages U
@@ -251,6 +253,8 @@ pub record Moved (c : Capacity) (o : Around) (bytes : List ℕ) (W : List Work) 
   pub spanned : (h : List ℕ) (s : List Row) → length s ≡ w .spans → ends W h (w .at) s ≡ ends U (opened a (w .spans) h) (z .at) (rows a (w .at) h s)
   pub room : Room a (length bytes) w z
   pub counted : z .visits ≡ w .visits + 1
+  pub highest : max (w .top) (peak visit (ahead W w)) ≡ max (max (w .top) (z .top)) (peak visit (ahead U z))
+  pub deepest : max (w .depth) (peak depth (ahead W w)) ≡ max (max (w .depth) (z .depth)) (peak depth (ahead U z))
 
 pub record Walked (c : Capacity) (o : Around) (P X : List Row) (bytes S : List ℕ) (w : Walk) (U : List ℕ) (z : Walk) (a : Act) : Type 0 where
   pub moved : Moved c o bytes (works (plan P X bytes) S) w (works (plan P X bytes) U) z a
@@ -265,3 +269,4 @@ Turned c o P X bytes e w x (Stopped q m v) = ran c o (w .visits) (ahead (works (
 pub record Answered (c : Capacity) (p : Plan) (r : Measured) : Type 0 where
   pub answer : (o : Around) → told (o .counts) r ≡ ran c o 0 (materialize p)
   pub sized : Sized p r
+  pub needing : Needing p r

@@ -4,7 +4,7 @@
 ghost use mathlib.Core.Path.{_≡_};
 ghost use mathlib.Core.Bool.{true, false};
 ghost use mathlib.Core.List.{List, _∷_, _++_};
-ghost use Prim.Native.Nat.{ℕ, _+_, _-_, _≤_, _<_, _^_};
+ghost use Prim.Native.Nat.{ℕ, _+_, _-_, _≤_, _<_, _^_, max};
 ghost use lib.Dec.{leb};
 ghost use lib.ListN.{length, take, drop, set, replicate};
 ghost use Rattle.file_tables.specs.Tables.{byte-start, byte-length};
@@ -37,9 +37,9 @@ pub enum Exhausted {
     Visits,
 }
 
-// A page: its bytes, its spans, and the visits. A refusal: what is needed (0 for the visit limit), and the visits before it.
+// A page: its bytes, its spans, and the visits; then the most items on the visit stack, and the most open spans. A refusal: what is needed (0 for the visit limit), and the visits before it.
 pub enum Measured {
-    Page(usize, usize, u64),
+    Page(usize, usize, u64, usize, usize),
     Refused(Exhausted, usize, u64),
 }
 
@@ -98,6 +98,16 @@ fn word_of(id: PlanId) -> usize
     ensures { λ r. ⌜ (r ≡ id .0 + 1) × (r ≤ 2 ^ 32) ⌝ }
 {
     wide(id.0) + 1
+}
+
+// The greater of two numbers.
+fn greater(a: usize, b: usize) -> usize
+    ensures { λ r. ⌜ r ≡ max a b ⌝ }
+{
+    if a < b {
+        return b;
+    }
+    a
 }
 
 // Whether a size is exceeded. What is not tested is known to fit, so the second pass does not test again.
@@ -298,6 +308,8 @@ pub fn measure(
     }
     let number = root.0;
     let mut w = begin_walk(visit, PlanId(number));
+    let mut highest: usize = 1;
+    let mut deepest: usize = 0;
     while 0 < w.top {
         if capacity.visit_limit <= w.visits {
             return Measured::Refused(Exhausted::Visits, 0, w.visits);
@@ -308,11 +320,13 @@ pub fn measure(
                 return Measured::Refused(e, needed, visits);
             }
             Visited::Went(z, _) => {
+                highest = greater(highest, z.top);
+                deepest = greater(deepest, z.depth);
                 w = z;
             }
         }
     }
-    Measured::Page(w.at, w.spans, w.visits)
+    Measured::Page(w.at, w.spans, w.visits, highest, deepest)
 }
 
 // The bytes of `bytes` at the front of `output`, the part that starts at the current write position.

@@ -17,6 +17,7 @@ use Rattle.machine.specs.Answer.{Answer}
 use Rattle.answer.specs.Answer.{Ordered, lent-as, Answers, out-of-order, wrong-file, laid-out}
 use Rattle.solve_workspace.specs.declared.RenderOptions.{RenderOptions}
 use Rattle.solve_workspace.specs.declared.Bounds.{Bounds as Sizes}
+use Rattle.solve_workspace.specs.declared.Needs.{Needs}
 use Rattle.solve_workspace.specs.Meets.{limits}
 use Rattle.memo.specs.Sizes.{SlotsFor}
 use Rattle.materialize.specs.Rows.{Row}
@@ -36,23 +37,23 @@ pub told-refusal : {r : Rendered} {output out : List ℕ} {k : ℕ} (n needed : 
 told-refusal {r} {output} {out} {k} n needed c e f = subst (λ (x : Rendered). Told x output out k) (sym e) (record { text-is = λ rows h. f })
 
 pub told-page :
-    {r : Rendered} {output out : List ℕ} {k : ℕ} (c : ConsumerCost) (n m : ℕ) (s : SolveStats) → r ≡ Page c n m s
+    {r : Rendered} {output out : List ℕ} {k : ℕ} (c : ConsumerCost) (n m : ℕ) (s : SolveStats) (q : Needs) → r ≡ Page c n m s q
     → Front (page-text (s .«work_items») (c .«overflow_high» * 2 ^ 64 + c .«overflow_low») (c .burden) m (take n output)) out k → Told r output out k
-told-page {r} {output} {out} {k} c n m s e f = subst (λ (x : Rendered). Told x output out k) (sym e) (record { text-is = with-rows })
+told-page {r} {output} {out} {k} c n m s q e f = subst (λ (x : Rendered). Told x output out k) (sym e) (record { text-is = with-rows })
   where
-    with-rows : (rows : List Row) → m ≤ length rows → Front (text-of (meant (Page c n m s) output rows)) out k
+    with-rows : (rows : List Row) → m ≤ length rows → Front (text-of (meant (Page c n m s q) output rows)) out k
     with-rows rows h =
         subst (λ (i : ℕ). Front (page-text (s .«work_items») (c .«overflow_high» * 2 ^ 64 + c .«overflow_low») (c .burden) i (take n output)) out k)
         (sym (length-map (take m rows) span-of ∙ length-take-le m rows h)) f
 
 -- the page of an answer that fits
-pub fitting-page : {r : Rendered} {output text : List ℕ} (c : ConsumerCost) (n m : ℕ) (s : SolveStats) → r ≡ Page c n m s → Fitting r output text → n ≤ length output
-fitting-page {r} {output} c n m s e f = subst (λ (x : Rendered). page-length x ≤ length output) e (f .page-there)
+pub fitting-page : {r : Rendered} {output text : List ℕ} (c : ConsumerCost) (n m : ℕ) (s : SolveStats) (q : Needs) → r ≡ Page c n m s q → Fitting r output text → n ≤ length output
+fitting-page {r} {output} c n m s q e f = subst (λ (x : Rendered). page-length x ≤ length output) e (f .page-there)
 
-pub fitting-room : {r : Rendered} {output text : List ℕ} (c : ConsumerCost) (n m : ℕ) (s : SolveStats) → r ≡ Page c n m s → Fitting r output text
+pub fitting-room : {r : Rendered} {output text : List ℕ} (c : ConsumerCost) (n m : ℕ) (s : SolveStats) (q : Needs) → r ≡ Page c n m s q → Fitting r output text
     → 102 + length (take n output) ≤ length text
-fitting-room {r} {output} c n m s e f =
-    let h : n ≤ length output = fitting-page c n m s e f in
+fitting-room {r} {output} c n m s q e f =
+    let h : n ≤ length output = fitting-page c n m s q e f in
     omega (arith, f .room, length-take-le n output h)
 
 -- ---- memory of the program's sizes

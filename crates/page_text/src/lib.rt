@@ -30,6 +30,7 @@ fn print_answer(r: Rendered, output: &[u8], text: &mut [u8]) -> usize
             length,
             spans,
             stats,
+            needs: _,
         } => page_text(
             text,
             stats.work_items,

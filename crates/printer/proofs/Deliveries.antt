@@ -102,7 +102,7 @@ module _ {file : List ℕ} {o : RenderOptions} {b : Bounds} {l : Lengths} {plans
       → Drafting file o b l plans texts bytes r → length output ≡ length output₀ → length spans ≡ length spans₀ → Delivered r plans texts bytes output₀ output spans₀ spans stats z
       → Printed file o b l output₀ output spans₀ spans stats z
   printed {output₀} {output} {spans₀} {spans} {stats} {z} (Drawing d) x n m y = record {
-    right = subst (Right file o b l) (sym is) (record { answers = R .answers; promised = R .promised; same-page = R .same-page });
+    right = subst (Right file o b l) (sym is) (record { answers = R .answers; promised = R .promised; same-page = R .same-page; needs-within = R .needs-within; just-suffices = R .just-suffices; none-less = R .none-less });
     output-is = subst (λ (u : Outcome). Front (bytes-of u) output₀ output) (sym (y .outcome-is)) (R .stands .output-is);
     spans-are = subst (λ (u : Outcome). Front (spans-of u) spans₀ spans) (sym (y .outcome-is)) (front-back (R .stands .rows-are));
     no-fit-checks = ap (λ (s : SolveStats). s .«fit_checks») (y .counts-are);
@@ -114,7 +114,7 @@ module _ {file : List ℕ} {o : RenderOptions} {b : Bounds} {l : Lengths} {plans
       is : answered z stats output spans ≡ meant (page-of d) output (rows-in spans)
       is = rw (y .outcome-is, y .counts-are, spans-there (d .spans) spans) refl
   printed {output₀} {output} {spans₀} {spans} {stats} {z} (Denied n needed k) x e m y = record {
-    right = subst (Right file o b l) (sym is) (record { answers = R .answers; promised = R .promised; same-page = R .same-page });
+    right = subst (Right file o b l) (sym is) (record { answers = R .answers; promised = R .promised; same-page = R .same-page; needs-within = R .needs-within; just-suffices = R .just-suffices; none-less = R .none-less });
     output-is = subst (λ (u : Outcome). Front (bytes-of u) output₀ output) (sym (y .outcome-is)) (subst (λ (t : List ℕ). Front 0 output₀ t) (sym (y .wrote .0)) (R .stands .output-is));
     spans-are = subst (λ (u : Outcome). Front (spans-of u) spans₀ spans) (sym (y .outcome-is)) (subst (λ (t : List AnnotationSpan). Front 0 spans₀ t) (sym (y .wrote .1)) (front-back (R .stands .rows-are)));
     no-fit-checks = ap (λ (s : SolveStats). s .«fit_checks») (y .counts-are) ∙ R .stands .no-fit-checks;

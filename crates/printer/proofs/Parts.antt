@@ -20,7 +20,7 @@ module _ {a : Drafted} {d : Draft} (e : a ≡ Drawing d) where
   pub page-counts : d .stats ≡ counts-first a
   page-counts = sym (ap counts-first e)
 
-  pub page-outcome : Page (d .cost) (d .length) (d .spans) ≡ outcome a
+  pub page-outcome : Page (d .cost) (d .length) (d .spans) (d .needs) ≡ outcome a
   page-outcome = sym (ap outcome e)
 
   pub page-rooted : {visit : List ℕ} → Rooted a visit → 0 < length visit

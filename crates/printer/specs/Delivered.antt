@@ -26,7 +26,7 @@ use Rattle.printer.specs.declared.Outcome.the-variants.{Page, Refused}
 
 -- its answer, and its counts before and after the second pass
 abbrev pub outcome : Drafted → Outcome
-outcome (Drawing d) = Page (d .cost) (d .length) (d .spans)
+outcome (Drawing d) = Page (d .cost) (d .length) (d .spans) (d .needs)
 outcome (Denied n needed k) = Refused n needed
 
 abbrev pub counts-first : Drafted → SolveStats

@@ -13,6 +13,7 @@ use Rattle.answer.specs.Page.{RulesPage, Promised, right-page}
 use Rattle.stats.specs.declared.SolveStats.{SolveStats}
 use Rattle.spans.specs.declared.AnnotationSpan.{AnnotationSpan}
 use Rattle.solve_workspace.specs.declared.Bounds.{Bounds}
+use Rattle.solve_workspace.specs.declared.Needs.{Needs}
 use Rattle.solve_workspace.specs.declared.RenderOptions.{RenderOptions}
 use Rattle.render.specs.declared.order.Lengths.{Lengths}
 use Rattle.render.specs.Call.{settings}
@@ -27,6 +28,6 @@ module _ {file : List ℕ} {o : RenderOptions} {b : Bounds} {l : Lengths} {outpu
   pub refusal-alters-nothing : {n needed : ℕ} → Printed file o b l output₀ output spans₀ spans stats (Refused n needed) → (output ≡ output₀) × (spans ≡ spans₀)
   refusal-alters-nothing p = (p .output-is .past, p .spans-are .past)
 
-  pub page-of-the-rule : {c : ConsumerCost} {n m : ℕ} → Printed file o b l output₀ output spans₀ spans stats (Page c n m)
+  pub page-of-the-rule : {c : ConsumerCost} {n m : ℕ} {q : Needs} → Printed file o b l output₀ output spans₀ spans stats (Page c n m q)
       → RulesPage file (settings o) (record { bytes = take n output; spans = map span-in (take m spans); cost = value c })
   page-of-the-rule p = page-in (p .right .promised)

@@ -14,16 +14,18 @@ use render::call::render_plan;
 use render::page::Drafted;
 use render::page::capacity_of;
 use solve_workspace::Bounds;
+use solve_workspace::Needs;
 use solve_workspace::RenderOptions;
 use spans::AnnotationSpan;
 use stats::SolveStats;
 
-// What a call answers; its counts stand in the lent record. Where a size is too small, `needed` is the size that is needed there; else it is 0.
+// What a call answers; its counts stand in the lent record. A page comes with the sizes that just suffice for it. Where a size is too small, `needed` is the size that is needed there; else it is 0.
 pub enum Outcome {
     Page {
         cost: ConsumerCost,
         length: usize,
         spans: usize,
+        needs: Needs,
     },
     Refused {
         number: u32,
@@ -58,10 +60,12 @@ fn outcome_of(a: Drafted) -> Outcome
     match a {
         Drafted::Page(d) => {
             let cost = d.cost;
+            let needs = d.needs;
             Outcome::Page {
                 cost: cost,
                 length: d.length,
                 spans: d.spans,
+                needs: needs,
             }
         }
         Drafted::Refused {

@@ -59,7 +59,9 @@ module _ (X : List Row) (B : List ℕ) (x y : ℕ) (lx : x ≤ length X) (ly : y
     planned = moved (λ (X : List Row) (B : List ℕ). Planned (take (d .plans) P) (length (take (d .plans) P)) X (d .root .0)) (d .texts) (d .bytes) (h .texts-in) (h .bytes-in) (h .planned);
     inside = moved (λ (X : List Row) (B : List ℕ). InBytes X B) (d .texts) (d .bytes) (h .texts-in) (h .bytes-in) (h .inside);
     small = h .small;
-    measured = moved (λ (X : List Row) (B : List ℕ). Answered (capacity b) (plan (take (d .plans) P) X B (d .root .0)) (Fitting (d .length) (d .spans) (d .visits))) (d .texts) (d .bytes) (h .texts-in) (h .bytes-in) (h .measured);
+    highest = h .highest;
+    deepest = h .deepest;
+    measured = moved (λ (X : List Row) (B : List ℕ). Answered (capacity b) (plan (take (d .plans) P) X B (d .root .0)) (Fitting (d .length) (d .spans) (d .visits) (h .highest) (h .deepest))) (d .texts) (d .bytes) (h .texts-in) (h .bytes-in) (h .measured);
     unvisited = h .unvisited;
     no-fit-checks = h .no-fit-checks;
   }

@@ -11,10 +11,11 @@ use Rattle.prepare.specs.declared.read.Answer.{Answer as FileAnswer}
 use Rattle.prepare.specs.declared.read.Answer.the-variants.{Accepted, Refused as FileRefused}
 use Rattle.prepare.specs.File.{Reads}
 use Rattle.memo.specs.Sizes.{SlotsFor}
-use Rattle.machine.specs.Events.{no-counts}
-use Rattle.machine.specs.Answer.{Answer, refused}
+use Rattle.machine.specs.Events.{Bounds as Limits, Counts as Tally, no-counts}
+use Rattle.machine.specs.Materializer.{Rendered as Sheet}
+use Rattle.machine.specs.Answer.{Answer, paged, refused}
 use Rattle.answer.specs.Answer.{Answers}
-use Rattle.answer.specs.Demand.{promised, only-page}
+use Rattle.answer.specs.Demand.{promised, only-page, needs-within, just-page, less-refused}
 use Rattle.stats.specs.declared.SolveStats.{SolveStats}
 use Rattle.solve_workspace.specs.declared.Bounds.{Bounds}
 use Rattle.solve_workspace.specs.declared.RenderOptions.{RenderOptions}
@@ -69,8 +70,14 @@ module _ (file : List ℕ) (o : RenderOptions) (b : Bounds) (l : Lengths) (z : B
     answers = a;
     stands = s;
     promised = promised z a;
-    same-page = λ p k e d m L w x q. only-page L w (subst (λ (y : Answer). Answers (InOrder o b l) file (settings o) (limits b) y) e a) q;
+    same-page = λ p k e d m L w x q. only-page L w (as-page p k e) q;
+    needs-within = λ p k e. needs-within (as-page p k e);
+    just-suffices = λ p k e d m j w x q. just-page w (as-page p k e) (subst (λ (y : Limits). Answers (InOrder o d m) file (settings o) y x) j q);
+    none-less = λ p k e x d m s w y q. less-refused w (as-page p k e) x (limits d) s q;
   }
+    where
+      as-page : (p : Sheet) (k : Tally) → meant r out rows ≡ paged p k → Answers (InOrder o b l) file (settings o) (limits b) (paged p k)
+      as-page p k e = subst (λ (y : Answer). Answers (InOrder o b l) file (settings o) (limits b) y) e a
 
   -- ---- a refusal before the solver begins
 

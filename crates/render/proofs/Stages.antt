@@ -13,7 +13,7 @@ use Rattle.plan.specs.declared.PlanNode.{PlanNode as Node}
 use Rattle.plan.specs.declared.PlanNode.the-variants.{Empty, Text, Newline, Concat, Annotate, Penalty}
 use Rattle.plan.specs.Arena.{arena}
 use Rattle.plan.specs.Layouts.{layoutOf, layoutsAfter, layouts}
-use Rattle.machine.specs.Events.{no-counts, Prog, ret, _>>_, Out, run}
+use Rattle.machine.specs.Events.{no-counts, with-needs, Prog, ret, _>>_, Out, run}
 use Rattle.machine.specs.Programs.{and-then, run-bind}
 use Rattle.machine.specs.Model.{Prepared, layout-of, layouts-after, plan-at}
 use Rattle.machine.specs.Solve.{Solved, solve}
@@ -29,7 +29,7 @@ use Rattle.materialize.specs.Texts.{layout}
 use Rattle.solve.specs.declared.SolvedCore.{SolvedCore}
 use Rattle.solve.specs.declared.Solution.{Solution}
 use Rattle.solve.specs.declared.Solution.the-variants.{Found, Refused}
-use Rattle.solve.specs.Outcome.{outcome, Arranged, Plans}
+use Rattle.solve.specs.Outcome.{outcome, solver-needs, Arranged, Plans}
 use Rattle.render.specs.declared.page.Drafted.{Drafted}
 use Rattle.render.specs.Drafts.{Half, refusal, Paged}
 use Rattle.render.specs.Call.{Laid}
@@ -95,7 +95,7 @@ module _ (b : Bounds) (R : Rules) (t : Tables) (plans : List Row) where
   laid-page a c e s r h =
       half-map r
       (λ out₀ out rows₀ rows x q. record {
-        is = q .is ∙ ap (λ (p : Plan). answer-of (run (limits b) (tally (c .stats)) (materialize p >> ret (rendered p (value (c .cost)))))) (sym (plan-same (P .table) (arena plans (c .plans)) (c .root .0)))
+        is = q .is ∙ ap (λ (p : Plan). answer-of (run (limits b) (with-needs (tally (c .stats)) (solver-needs (c .needs))) (materialize p >> ret (rendered p (value (c .cost)))))) (sym (plan-same (P .table) (arena plans (c .plans)) (c .root .0)))
             ∙ sym (after (outcome (Found c) plans) (s ∙ ap (λ (x : Solution). outcome x plans) e));
         stands = q .stands;
       })

@@ -9,11 +9,13 @@ use Rattle.file_form.specs.declared.fill.Counts.{Counts}
 pub use Rattle.file_form.specs.Form.{tables-held}
 use Rattle.file_checks.specs.Judged.{tables}
 use Rattle.memo.specs.Sizes.{SlotsFor}
+use Rattle.machine.specs.Events.{Kind, size, need-of}
 use Rattle.machine.specs.Events.{Counts as Tally}
 use Rattle.machine.specs.Model.{Prepared}
 use Rattle.machine.specs.Materializer.{Rendered as Page}
 use Rattle.machine.specs.Answer.{Answer, paged, answer}
 use Rattle.machine.specs.Larger.{Larger}
+use Rattle.machine.specs.Just.{just, Smaller, RefusedBy}
 use Rattle.answer.specs.Answer.{Settings, Answers}
 use Rattle.answer.specs.Page.{Promised}
 use Rattle.solve_workspace.specs.declared.Bounds.{Bounds}
@@ -39,13 +41,20 @@ settings o = record { width = o .width; newline-cost = o .«newline_cost»; poli
 -- ---- the whole call
 
 -- the answer is that of document 01, with its number, needed size, counts, page, spans and cost; output and span rows stand as it says.
--- Where it is a page, that is the page of the first of the cheapest layouts in choice order; and with sizes and limits none smaller, and memory to match, no other answer is right
+-- Where it is a page, that is the page of the first of the cheapest layouts in choice order; and with sizes and limits none smaller, and memory to match, no other answer is right.
+-- Its needs are sizes that were lent; with just these sizes, the same limits and memory to match it is again the one right answer, and with exactly one of them smaller the refusal of that kind is
+-- (document 02, change 10)
 pub record Rendering (file : List ℕ) (o : RenderOptions) (b : Bounds) (l : Lengths) (output₀ output : List ℕ) (rows₀ rows : List Row) (r : Rendered) : Type 0 where
   pub answers : Answers (InOrder o b l) file (settings o) (limits b) (meant r output rows)
   pub stands : Stands r output₀ output rows₀ rows
   pub promised : Promised file (settings o) (meant r output rows)
   pub same-page : (p : Page) (k : Tally) → meant r output rows ≡ paged p k → (d : Bounds) (m : Lengths) → Larger (limits b) (limits d) → InOrder o d m
       → (a : Answer) → Answers (InOrder o d m) file (settings o) (limits d) a → a ≡ paged p k
+  pub needs-within : (p : Page) (k : Tally) → meant r output rows ≡ paged p k → (x : Kind) → need-of (k .needs) x ≤ size (limits b) x
+  pub just-suffices : (p : Page) (k : Tally) → meant r output rows ≡ paged p k → (d : Bounds) (m : Lengths) → limits d ≡ just (k .needs) (limits b) → InOrder o d m
+      → (a : Answer) → Answers (InOrder o d m) file (settings o) (limits d) a → a ≡ paged p k
+  pub none-less : (p : Page) (k : Tally) → meant r output rows ≡ paged p k → (x : Kind) (d : Bounds) (m : Lengths) → Smaller x (k .needs) (limits b) (limits d) → InOrder o d m
+      → (a : Answer) → Answers (InOrder o d m) file (settings o) (limits d) a → RefusedBy x (k .needs) (limits d) a
 
 -- its first half, with plan records, texts and their bytes as they stand after it. Where there is a page, the memory that it is written with is lent
 pub record Drafting (file : List ℕ) (o : RenderOptions) (b : Bounds) (l : Lengths) (plans texts : List Row) (bytes : List ℕ) (r : Drafted) : Type 0 where

@@ -5,13 +5,15 @@ use Prim.Native.Nat.{ℕ, _≤_}
 use lib.ListN.{length, take}
 use Rattle.cost.specs.Value.{value}
 use Rattle.layout.specs.Layout.{Plan}
-use Rattle.machine.specs.Events.{number, ret, _>>_, run}
+use Rattle.machine.specs.Events.{number, with-needs, ret, _>>_, run}
 use Rattle.machine.specs.Materializer.{materialize, rendered}
 use Rattle.machine.specs.Answer.{answer-of}
 use Rattle.stats.specs.declared.SolveStats.{SolveStats}
 use Rattle.solve_workspace.specs.declared.Bounds.{Bounds}
+use Rattle.solve_workspace.specs.declared.Needs.{Needs}
 use Rattle.solve_workspace.specs.declared.Why.{Why}
 use Rattle.solve_workspace.specs.Meets.{limits, tally, reason}
+use Rattle.solve_workspace.specs.Rows.{low}
 use Rattle.materialize.specs.Rows.{Row}
 use Rattle.materialize.specs.Texts.{InBytes, Planned}
 use Rattle.materialize.specs.Answer.{why-of, Small, Lent}
@@ -21,6 +23,8 @@ use Rattle.materialize.specs.declared.Capacity.{Capacity}
 use Rattle.materialize.specs.declared.Measured.{Measured}
 use Rattle.materialize.specs.declared.Measured.the-variants.{Page as Fitting, Refused as Lacking}
 use Rattle.solve.specs.declared.SolvedCore.{SolvedCore}
+use Rattle.solve.specs.declared.SolverNeeds.{SolverNeeds}
+use Rattle.solve.specs.Outcome.{solver-needs}
 use Rattle.render.specs.declared.page.Rendered.{Rendered}
 use Rattle.render.specs.declared.page.Rendered.the-variants.{Page as Printed, Refused as Denied}
 use Rattle.render.specs.declared.page.Draft.{Draft}
@@ -40,7 +44,7 @@ chosen d plans texts bytes = plan (take (d .plans) plans) (take (d .texts) texts
 
 -- the answer once its page is written
 abbrev pub page-of : Draft → Rendered
-page-of d = Printed (d .cost) (d .length) (d .spans) (with-counts (d .stats) (d .visits))
+page-of d = Printed (d .cost) (d .length) (d .spans) (with-counts (d .stats) (d .visits)) (d .needs)
 
 -- what a pass that writes the page may rely on: the layout can be read, and it passes every limit of the materializer, with these numbers of bytes, spans and visits
 pub record Drawn (b : Bounds) (d : Draft) (plans texts : List Row) (bytes : List ℕ) : Type 0 where
@@ -50,7 +54,9 @@ pub record Drawn (b : Bounds) (d : Draft) (plans texts : List Row) (bytes : List
   pub planned : Planned (take (d .plans) plans) (length (take (d .plans) plans)) (take (d .texts) texts) (d .root .0)
   pub inside : InBytes (take (d .texts) texts) (take (d .bytes) bytes)
   pub small : Small (capacity b)
-  pub measured : Answered (capacity b) (chosen d plans texts bytes) (Fitting (d .length) (d .spans) (d .visits))
+  pub highest : ℕ
+  pub deepest : ℕ
+  pub measured : Answered (capacity b) (chosen d plans texts bytes) (Fitting (d .length) (d .spans) (d .visits) highest deepest)
   pub unvisited : d .stats .visits ≡ 0
   pub no-fit-checks : d .stats .«fit_checks» ≡ 0
 
@@ -84,12 +90,26 @@ pub record Writable (b : Bounds) (plans texts : List Row) (bytes visit depth out
 abbrev pub refusal : Why → ℕ → SolveStats → Drafted
 refusal why needed k = Refused (number (reason why)) needed (with-counts k (k .visits))
 
+-- what was needed of every kind, in 32 bits each
+abbrev pub page-needs : SolverNeeds → ℕ → ℕ → ℕ → ℕ → Needs
+page-needs q n m x h = record {
+  stack = q .stack;
+  memo = q .memo;
+  kept = q .kept;
+  frontier = q .frontier;
+  plans = q .plans;
+  visit = low x;
+  depth = low h;
+  output = low n;
+  spans = low m;
+}
+
 -- the first pass's answer over the plan that the solver has chosen, with so many texts and bytes of texts
 abbrev pub drafted : SolvedCore → ℕ → ℕ → Measured → Drafted
-drafted c texts bytes (Fitting n m v) = Page (record { cost = c .cost; length = n; spans = m; visits = v; stats = with-counts (c .stats) 0; root = c .root; plans = c .plans; texts = texts; bytes = bytes })
+drafted c texts bytes (Fitting n m v x h) = Page (record { cost = c .cost; length = n; spans = m; visits = v; stats = with-counts (c .stats) 0; needs = page-needs (c .needs) n m x h; root = c .root; plans = c .plans; texts = texts; bytes = bytes })
 drafted c texts bytes (Lacking e needed v) = Refused (number (why-of e)) needed (with-counts (c .stats) v)
 
 -- the answer is the machine's, once the plan of layout p is chosen
 pub record Paged (b : Bounds) (c : SolvedCore) (p : Plan) (output₀ output : List ℕ) (rows₀ rows : List Row) (r : Rendered) : Type 0 where
-  pub is : meant r output rows ≡ answer-of (run (limits b) (tally (c .stats)) (materialize p >> ret (rendered p (value (c .cost)))))
+  pub is : meant r output rows ≡ answer-of (run (limits b) (with-needs (tally (c .stats)) (solver-needs (c .needs))) (materialize p >> ret (rendered p (value (c .cost)))))
   pub stands : Stands r output₀ output rows₀ rows

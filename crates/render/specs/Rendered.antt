@@ -6,9 +6,10 @@ use Prim.Native.Nat.{ℕ, zero, suc, _≤_, _<_}
 use lib.ListN.{length, take, drop, getD}
 use Rattle.cost.specs.Value.{value}
 use Rattle.layout.specs.Spans.{Span}
+use Rattle.machine.specs.Events.{with-needs}
 use Rattle.machine.specs.Answer.{Answer, paged, refused}
 use Rattle.stats.specs.declared.SolveStats.{SolveStats}
-use Rattle.solve_workspace.specs.Meets.{tally}
+use Rattle.solve_workspace.specs.Meets.{tally, needs-told}
 use Rattle.materialize.specs.Rows.{Row, Fits}
 use Rattle.render.specs.declared.page.Rendered.{Rendered}
 use Rattle.render.specs.declared.page.Rendered.the-variants.{Page, Refused}
@@ -21,22 +22,22 @@ parent-of (suc k) = some k
 abbrev pub span-of : Row → Span
 span-of r = record { annotation = getD r 0 0; start = getD r 1 0; end = getD r 2 0; parent = parent-of (getD r 3 0) }
 
--- the machine's answer: a page's bytes are the first of the output, its spans the first of the rows
+-- the machine's answer: a page's bytes are the first of the output, its spans the first of the rows; a refusal tells no needs
 abbrev pub meant : Rendered → List ℕ → List Row → Answer
-meant (Page c n m k) output rows = paged (record { bytes = take n output; spans = map span-of (take m rows); cost = value c }) (tally k)
+meant (Page c n m k q) output rows = paged (record { bytes = take n output; spans = map span-of (take m rows); cost = value c }) (with-needs (tally k) (needs-told q))
 meant (Refused n needed k) output rows = refused n needed (tally k)
 
 -- bytes and spans that a page has; a refusal has none
 abbrev pub page-length : Rendered → ℕ
-page-length (Page c n m k) = n
+page-length (Page c n m k q) = n
 page-length (Refused n needed k) = 0
 
 abbrev pub span-count : Rendered → ℕ
-span-count (Page c n m k) = m
+span-count (Page c n m k q) = m
 span-count (Refused n needed k) = 0
 
 abbrev pub counts-of : Rendered → SolveStats
-counts-of (Page c n m k) = k
+counts-of (Page c n m k q) = k
 counts-of (Refused n needed k) = k
 
 -- n are put at the front of what was lent, and what stood past them is unaltered

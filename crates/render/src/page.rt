@@ -8,7 +8,7 @@ ghost use Rattle.materialize.specs.Answer.{why-of, Small, Lent};
 ghost use Rattle.materialize.specs.Writes.{Written};
 ghost use Rattle.solve.specs.Outcome.{Arranged};
 ghost use Rattle.render.specs.Rendered.{with-counts};
-ghost use Rattle.render.specs.Drafts.{capacity, chosen, page-of, Drawn, Half, refusal, drafted, Paged};
+ghost use Rattle.render.specs.Drafts.{capacity, chosen, page-of, Drawn, Half, refusal, page-needs, drafted, Paged};
 use cost::ConsumerCost;
 use materialize::Capacity;
 use materialize::Exhausted;
@@ -17,17 +17,20 @@ use materialize::measure;
 use materialize::write;
 use plan::PlanId;
 use solve::SolvedCore;
+use solve::SolverNeeds;
 use solve_workspace::Bounds;
+use solve_workspace::Needs;
 use solve_workspace::Why;
 use stats::SolveStats;
 
-// What a call answers. Where a size is too small, `needed` is the size that is needed there; else it is 0.
+// What a call answers. A page comes with the sizes that just suffice for it. Where a size is too small, `needed` is the size that is needed there; else it is 0.
 pub enum Rendered {
     Page {
         cost: ConsumerCost,
         length: usize,
         spans: usize,
         stats: SolveStats,
+        needs: Needs,
     },
     Refused {
         number: u32,
@@ -44,6 +47,7 @@ pub struct Draft {
     pub spans: usize,
     pub visits: u64,
     pub stats: SolveStats,
+    pub needs: Needs,
     pub root: PlanId,
     pub plans: usize,
     pub texts: usize,
@@ -108,13 +112,31 @@ pub fn capacity_of(b: Bounds) -> Capacity
     }
 }
 
+// What was needed of every kind. Each has its place in 32 bits, since as much was lent.
+fn page_needs(core: SolverNeeds, length: usize, spans: usize, visit: usize, depth: usize) -> Needs
+    ensures { λ r. ⌜ r ≡ page-needs core length spans visit depth ⌝ }
+{
+    Needs {
+        stack: core.stack,
+        memo: core.memo,
+        kept: core.kept,
+        frontier: core.frontier,
+        plans: core.plans,
+        visit: solve_workspace::narrow(visit as u64),
+        depth: solve_workspace::narrow(depth as u64),
+        output: solve_workspace::narrow(length as u64),
+        spans: solve_workspace::narrow(spans as u64),
+    }
+}
+
 fn draft_of(core: SolvedCore, texts: usize, bytes: usize, m: Measured) -> Drafted
     ensures { λ r. ⌜ r ≡ drafted core texts bytes m ⌝ }
 {
     let stats = core.stats;
     match m {
-        Measured::Page(length, spans, visits) => {
+        Measured::Page(length, spans, visits, visit, depth) => {
             let counts = with_visits(stats, 0);
+            let needs = page_needs(core.needs, length, spans, visit, depth);
             let cost = core.cost;
             let root = core.root;
             let d = Draft {
@@ -123,6 +145,7 @@ fn draft_of(core: SolvedCore, texts: usize, bytes: usize, m: Measured) -> Drafte
                 spans: spans,
                 visits: visits,
                 stats: counts,
+                needs: needs,
                 root: root,
                 plans: core.plans,
                 texts: texts,
@@ -166,11 +189,13 @@ fn page_answer(d: Draft) -> Rendered
 {
     let cost = d.cost;
     let stats = with_visits(d.stats, d.visits);
+    let needs = d.needs;
     Rendered::Page {
         cost: cost,
         length: d.length,
         spans: d.spans,
         stats: stats,
+        needs: needs,
     }
 }
 

@@ -14,7 +14,8 @@ use Rattle.memo.specs.declared.MemoKey.{MemoKey}
 use Rattle.memo.specs.Entries.{listed}
 use Rattle.memo.proofs.Uses.{slots-enough, fresh}
 use Rattle.plan.specs.Arena.{arena}
-use Rattle.machine.specs.Events.{Counts, Prog, ret, _>>=_, Out, done, stop, run, counted, PlanNodes, no-counts}
+use Rattle.machine.specs.Events.{Counts, Kind, stack, memo, kept, frontier, plans, size, need-of, with-needs, Prog, ret, _>>=_, Out, done, stop, run, counted, PlanNodes, no-counts}
+use Rattle.machine.specs.Just.{need-within}
 use Rattle.machine.specs.Programs.{run-bind, and-then}
 use Rattle.machine.specs.Programs.{value as value-of}
 use Rattle.machine.specs.Model.{Prepared, Candidate, Scratch, part, range, within-range, memo-key, Task, Eval, State, blank-state, with-tasks, Got, got}
@@ -34,17 +35,19 @@ use Rattle.solve_workspace.specs.declared.Candidate.{Candidate as Code}
 use Rattle.solve_workspace.specs.declared.Why.{Why}
 use Rattle.solve_workspace.specs.declared.Reached.{Reached}
 use Rattle.solve_workspace.specs.declared.Reached.the-variants.{Go, Stop}
-use Rattle.solve_workspace.specs.Meets.{limits, tally, counts, reason, out, Sound, Meets}
+use Rattle.solve_workspace.specs.Meets.{limits, tally, counts, needs-in, reason, out, Sound, Meets}
 use Rattle.solve_workspace.specs.Rows.{Row, at, pile, range-of, row-list, candidate-of, candidate, node-of, abs}
 use Rattle.solve_workspace.specs.Frames.{Popped, Memory, no-entry}
 use Rattle.solve_workspace.specs.Frames.{Kept as Stayed}
 use Rattle.solve_workspace.specs.Lent.{WORDS, regs, Held}
 use Rattle.solve_workspace.specs.Stacks.{pop-is}
+use Rattle.solve_workspace.specs.Words.{low-is}
 use Rattle.solve_builder.specs.Building.{Begun}
 use Rattle.solve_builder.specs.Opening.{begun-abs, begun-held}
+use Rattle.solve.specs.declared.SolverNeeds.{SolverNeeds}
 use Rattle.solve.specs.declared.Solution.the-variants.{Found}
-use Rattle.solve.specs.Accepted.{Typed, MemoRoom, Topped}
-use Rattle.solve.specs.Outcome.{outcome, least-of, with-nodes}
+use Rattle.solve.specs.Accepted.{Typed, MemoRoom, NeedsFit, Topped}
+use Rattle.solve.specs.Outcome.{outcome, least-of, with-nodes, needs-low, solver-needs}
 use Rattle.solve.proofs.Turns.{value-is}
 
 -- ---- the start
@@ -124,6 +127,28 @@ typed-start R P K q b h k ts rs ps es ks fs ns {f = f} {s = s} m e =
 done-types : {R : Rules} {T : Table} {D : ℕ → Doc} {g : Front} {k : List Candidate} {ps : List Plan} {Es : List Front} {qs : List Scratch} → Cont R T D g k ps [] Es qs → Es ≡ g ∷ []
 done-types c-done = refl
 
+-- sizes are numbers of 32 bits
+pub record Narrow (b : Bounds) : Type 0 where
+  pub stack : b .stack < 2 ^ 32
+  pub memo : b .memo < 2 ^ 32
+  pub kept : b .kept < 2 ^ 32
+  pub frontier : b .frontier < 2 ^ 32
+  pub plans : b .plans < 2 ^ 32
+
+-- no more was needed than was lent
+needs-fit : (R : Rules) (P : Prepared) (b : Bounds) {f : Registers → State} (a : Reached) (s : Registers) → Meets b no-counts (solve-tasks R P) a f → a ≡ Go s → Narrow b → NeedsFit s
+needs-fit R P b {f = f} a s m q n =
+    let h : run (limits b) no-counts (solve-tasks R P) ≡ done (counts s) (f s) = m .is ∙ ap (λ x. out x f) q in
+    let w : (x : Kind) → need-of (counts s .needs) x ≤ size (limits b) x =
+    need-within (limits b) no-counts (record { works-le = omega arith; visits-le = omega arith; none-yet = refl }) (solve-tasks R P) h in
+    record {
+      stack = omega (arith, w stack, n .stack);
+      memo = omega (arith, w memo, n .memo);
+      kept = omega (arith, w kept, n .kept);
+      frontier = omega (arith, w frontier, n .frontier);
+      plans = omega (arith, w plans, n .plans);
+    }
+
 -- the result on top, of a stack with one
 pub record Top (rows : List Row) (n : ℕ) : Type 0 where
   pub under : ℕ
@@ -139,8 +164,8 @@ unfolding abs
 topped-as R P D F s ts rs ps es ks fs ns h = top-is R (P .table) D _ _ F rs (s .results) h
 
 pub topped : (R : Rules) (P : Prepared) → Ready P → (b : Bounds) (ts rs ps es ks : List Row) (fs : List ℕ) (ns : List Row) (a : Reached) (s : Registers)
-    → Meets b no-counts (solve-tasks R P) a (λ z. abs z ts rs ps es ks fs ns) → a ≡ Go s → Sound b s → b .stack ≤ length rs → b .kept ≤ length ks → Topped s rs ks
-topped R P K b ts rs ps es ks fs ns a s m q h lr lk =
+    → Meets b no-counts (solve-tasks R P) a (λ z. abs z ts rs ps es ks fs ns) → a ≡ Go s → Sound b s → Narrow b → b .stack ≤ length rs → b .kept ≤ length ks → Topped s rs ks
+topped R P K b ts rs ps es ks fs ns a s m q h nb lr lk =
     let D = document (P .table) (K .ranked) in
     let reads = document-reads (P .table) (K .ranked) in
     let g = goal R P D K reads in
@@ -149,7 +174,7 @@ topped R P K b ts rs ps es ks fs ns a s m q h lr lk =
     let c : Cont R (P .table) D g (S .retained) (laid (P .table) (S .plans)) [] (k .inv .types) (S .pending) =
     subst (λ (z : List Task). Cont R (P .table) D g (S .retained) (laid (P .table) (S .plans)) z (k .inv .types) (S .pending)) (k .tasks-are) (k .inv .conts) in
     let t : Top rs (s .results) = topped-as R P D g s ts rs ps es ks fs ns (subst (λ (z : List Front). ResAt R P D g S z) (done-types c) (k .inv .res)) in
-    record { under = t .under; some = t .some; lent = omega (arith, h .results, lr); kept = omega (arith, h .kept, lk); filled = t .filled }
+    record { under = t .under; some = t .some; lent = omega (arith, h .results, lr); kept = omega (arith, h .kept, lk); filled = t .filled; needs-fit = needs-fit R P b a s m q nb }
 
 -- ---- the best candidate
 
@@ -181,22 +206,27 @@ plans-of : (s : Registers) (ts rs ps es ks : List Row) (fs : List ℕ) (ns : Lis
 unfolding abs
 plans-of s ts rs ps es ks fs ns = refl
 
+-- a popped result leaves the needs, which are told whole
+needs-same : (st s : Registers) → Popped st s → NeedsFit st → solver-needs (needs-low s) ≡ needs-in st
+needs-same st s p y =
+    rw (p .peaks, p .kept, p .plans, low-is (st .peaks .stack) (y .stack), low-is (st .peaks .memo) (y .memo), low-is (st .kept) (y .kept), low-is (st .peaks .frontier) (y .frontier), low-is (st .plans) (y .plans))
+
 pub best-is : (b : Bounds) (R : Rules) (P : Prepared) (st s : Registers) (ts rs ps es ks : List Row) (fs : List ℕ) (ns : List Row) (best : Code)
     → pop-exact-result (abs st ts rs ps es ks fs ns) ≡ ret (got (range (s .start) (s .len)) (abs s ts rs ps es ks fs ns)) → Popped st s → 1 ≤ s .len
-    → candidate best ≡ least-of (part (row-list candidate-of ks (s .kept)) (s .start) (s .len)) → (t : SolveStats) → t ≡ with-nodes (s .stats) (s .plans)
-    → run (limits b) (counts st) (take-best R P (abs st ts rs ps es ks fs ns)) ≡ outcome (Found (record { root = best .plan; cost = best .cost; plans = s .plans; stats = t })) ns
+    → candidate best ≡ least-of (part (row-list candidate-of ks (s .kept)) (s .start) (s .len)) → (t : SolveStats) → t ≡ with-nodes (s .stats) (s .plans) → (n : SolverNeeds) → n ≡ needs-low s → NeedsFit st
+    → run (limits b) (counts st) (take-best R P (abs st ts rs ps es ks fs ns)) ≡ outcome (Found (record { root = best .plan; cost = best .cost; plans = s .plans; stats = t; needs = n })) ns
 unfolding take-best
-best-is b R P st s ts rs ps es ks fs ns best e p l c t q =
+best-is b R P st s ts rs ps es ks fs ns best e p l c t q d v y =
     let S = abs s ts rs ps es ks fs ns in
     let cs = part (row-list candidate-of ks (s .kept)) (s .start) (s .len) in
     let n : length (map node-of (arena ns (s .plans))) ≡ s .plans = length-map (arena ns (s .plans)) node-of ∙ arena-length ns (s .plans) in
-    let k : counted (counts st) (PlanNodes (length (S .plans))) ≡ tally t = rw (plans-of s ts rs ps es ks fs ns, n, q, p .stats) in
+    let k : counted (counts st) (PlanNodes (length (S .plans))) ≡ with-needs (tally t) (solver-needs d) = rw (plans-of s ts rs ps es ks fs ns, n, q, p .stats, v, needs-same st s p y) in
     ap (λ (m : Prog Got). run (limits b) (counts st) (m >>= (λ G. best-of (within-range (G .state .retained) (G .range)) (G .state)))) e
     ∙ ap (λ (r : List Candidate). run (limits b) (counts st) (best-of (part r (s .start) (s .len)) S)) (kept-of s ts rs ps es ks fs ns)
     ∙ best-run b (counts st) cs S (some-part (row-list candidate-of ks (s .kept)) (s .start) (s .len) l)
     ∙ ap (λ (j : Counts). done j (record { root = least-of cs .plan .plan; cost = least-of cs .cost; plans = S .plans })) k
-    ∙ ap (λ (x : Candidate). done (tally t) (record { root = x .plan .plan; cost = x .cost; plans = S .plans })) (sym c)
-    ∙ ap (λ (ps : List _). done (tally t) (record { root = candidate best .plan .plan; cost = candidate best .cost; plans = ps })) (plans-of s ts rs ps es ks fs ns)
+    ∙ ap (λ (x : Candidate). done (with-needs (tally t) (solver-needs d)) (record { root = x .plan .plan; cost = x .cost; plans = S .plans })) (sym c)
+    ∙ ap (λ (ps : List _). done (with-needs (tally t) (solver-needs d)) (record { root = candidate best .plan .plan; cost = candidate best .cost; plans = ps })) (plans-of s ts rs ps es ks fs ns)
 
 -- ---- both
 

@@ -1,7 +1,7 @@
 -- What the solver relies on: tables of an accepted file, and a state that the machine can come to.
 use mathlib.Core.Path.{_≡_}
 use mathlib.Core.List.{List, []}
-use Prim.Native.Nat.{ℕ, suc, _≤_}
+use Prim.Native.Nat.{ℕ, suc, _≤_, _<_, _^_}
 use lib.ListN.{length, getD}
 use Rattle.layout.specs.Document.{Doc}
 use Rattle.layout.specs.Rules.{Rules}
@@ -32,6 +32,14 @@ pub record MemoRoom (b : Bounds) (ss : List ℕ) (es : List Row) : Type 0 where
   pub slots : SlotsFor (b .memo) (length ss)
   pub entries : b .memo ≤ length es
 
+-- what was needed of each kind has its place in 32 bits
+pub record NeedsFit (s : Registers) : Type 0 where
+  pub stack : s .peaks .stack < 2 ^ 32
+  pub memo : s .peaks .memo < 2 ^ 32
+  pub kept : s .kept < 2 ^ 32
+  pub frontier : s .peaks .frontier < 2 ^ 32
+  pub plans : s .plans < 2 ^ 32
+
 -- the result on top is a range that is not empty
 pub record Topped (s : Registers) (rs ks : List Row) : Type 0 where
   pub under : ℕ
@@ -39,3 +47,4 @@ pub record Topped (s : Registers) (rs ks : List Row) : Type 0 where
   pub lent : s .results ≤ length rs
   pub kept : s .kept ≤ length ks
   pub filled : 1 ≤ at (getD rs under []) 1
+  pub needs-fit : NeedsFit s

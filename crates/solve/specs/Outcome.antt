@@ -6,11 +6,13 @@ use Rattle.cost.specs.Value.{value}
 use Rattle.stats.specs.declared.SolveStats.{SolveStats}
 use Rattle.plan.specs.Arena.{arena}
 use Rattle.plan.specs.Layouts.{Ranked}
-use Rattle.machine.specs.Events.{Out, done, stop}
+use Rattle.machine.specs.Events.{Needs, with-needs, Out, done, stop}
 use Rattle.machine.specs.Model.{Candidate, no-candidate}
 use Rattle.machine.specs.Solve.{Solved, least-key}
+use Rattle.solve_workspace.specs.declared.Registers.{Registers}
 use Rattle.solve_workspace.specs.Meets.{tally, reason}
-use Rattle.solve_workspace.specs.Rows.{Row, node-of}
+use Rattle.solve_workspace.specs.Rows.{Row, low, node-of}
+use Rattle.solve.specs.declared.SolverNeeds.{SolverNeeds}
 use Rattle.solve.specs.declared.SolvedCore.{SolvedCore}
 use Rattle.solve.specs.declared.Solution.{Solution}
 use Rattle.solve.specs.declared.Solution.the-variants.{Found, Refused}
@@ -19,8 +21,12 @@ use Rattle.solve.specs.declared.Solution.the-variants.{Found, Refused}
 abbrev pub core : SolvedCore → List Row → Solved
 core c plans = record { root = c .root .0; cost = value (c .cost); plans = map node-of (arena plans (c .plans)) }
 
+-- the machine's needs then
+abbrev pub solver-needs : SolverNeeds → Needs
+solver-needs q = record { stack = q .stack; memo = q .memo; kept = q .kept; frontier = q .frontier; plans = q .plans; visit = 0; depth = 0; output = 0; spans = 0 }
+
 abbrev pub outcome : Solution → List Row → Out Solved
-outcome (Found c) plans = done (tally (c .stats)) (core c plans)
+outcome (Found c) plans = done (with-needs (tally (c .stats)) (solver-needs (c .needs))) (core c plans)
 outcome (Refused why needed stats) plans = stop (reason why) needed (tally stats)
 
 -- the counts with so many plans
@@ -37,6 +43,10 @@ with-nodes t n = record {
   «plan_nodes» = n;
   visits = t .visits;
 }
+
+-- what the solver needed, in 32 bits each
+abbrev pub needs-low : Registers → SolverNeeds
+needs-low s = record { stack = low (s .peaks .stack); memo = low (s .peaks .memo); kept = low (s .kept); frontier = low (s .peaks .frontier); plans = low (s .plans) }
 
 -- the first least of candidates by cost and precedence
 abbrev pub least-of : List Candidate → Candidate

@@ -17,7 +17,7 @@ ghost use Rattle.solve_workspace.specs.Lent.{WORDS, regs, Held, reached};
 ghost use Rattle.solve_workspace.specs.Reading.{prepared, tables, rules};
 ghost use Rattle.solve_execute.specs.Turn.{Room};
 ghost use Rattle.solve.specs.Accepted.{Accepted, Typed, MemoRoom, Topped};
-ghost use Rattle.solve.specs.Outcome.{outcome, least-of, with-nodes, Plans};
+ghost use Rattle.solve.specs.Outcome.{outcome, least-of, with-nodes, needs-low, Plans};
 ghost use Rattle.solve.specs.Numbered.{TextsBelow};
 ghost use Rattle.solve.specs.declared.Solution.the-variants.{Found};
 use cost::ConsumerCost;
@@ -30,15 +30,18 @@ use solve_workspace::Bounds;
 use solve_workspace::Candidate;
 use solve_workspace::ENTRIES;
 use solve_workspace::ExactTask;
+use solve_workspace::FRONTIER_PEAK;
 use solve_workspace::GENERATED;
 use solve_workspace::HITS;
 use solve_workspace::KEPT;
 use solve_workspace::LEN;
+use solve_workspace::MEMO_PEAK;
 use solve_workspace::MISSES;
 use solve_workspace::PEAK;
 use solve_workspace::PLANS;
 use solve_workspace::PRUNED;
 use solve_workspace::RenderOptions;
+use solve_workspace::STACK_PEAK;
 use solve_workspace::START;
 use solve_workspace::TASKS;
 use solve_workspace::Turn;
@@ -47,12 +50,22 @@ use solve_workspace::WORK;
 use solve_workspace::Why;
 use stats::SolveStats;
 
-// The chosen plan, its cost, how many plans there are, and the counts.
+// What the solver needed of each of its kinds, 13 to 17.
+pub struct SolverNeeds {
+    pub stack: u32,
+    pub memo: u32,
+    pub kept: u32,
+    pub frontier: u32,
+    pub plans: u32,
+}
+
+// The chosen plan, its cost, how many plans there are, the counts, and what was needed.
 pub struct SolvedCore {
     pub root: PlanId,
     pub cost: ConsumerCost,
     pub plans: usize,
     pub stats: SolveStats,
+    pub needs: SolverNeeds,
 }
 
 // What is found; or why not, with the size that is needed (0 where no size is too small) and the counts so far.
@@ -117,6 +130,20 @@ fn stats_of(g: &[u64], plans: u64) -> SolveStats
     }
 }
 
+// What was needed. Each has its place in 32 bits, since as much was lent.
+fn needs_of(g: &[u64]) -> SolverNeeds
+    requires { ⌜ WORDS ≤ length (now g) ⌝ }
+    ensures { λ r. ⌜ r ≡ needs-low (regs (now (g .entry))) ⌝ }
+{
+    SolverNeeds {
+        stack: solve_workspace::narrow(g[STACK_PEAK]),
+        memo: solve_workspace::narrow(g[MEMO_PEAK]),
+        kept: solve_workspace::narrow(g[KEPT]),
+        frontier: solve_workspace::narrow(g[FRONTIER_PEAK]),
+        plans: solve_workspace::narrow(g[PLANS]),
+    }
+}
+
 fn take_best(g: &mut [u64], results: &[[u32; 2]], kept: &[[u64; 6]]) -> SolvedCore
     requires { ⌜ (WORDS ≤ length (now g)) × Topped (regs (now g)) (now results) (now kept) ⌝ }
     ensures meets { λ c. ⌜ ((b : Sizes) (R : Rules) (P : Prepared) (ts ps es : List Row) (fs : List ℕ) (ns : List Row) → run (limits b) (counts (regs (now (g .entry)))) (best-taken R P (abs (regs (now (g .entry))) ts (now (results .entry)) ps es (now (kept .entry)) fs ns)) ≡ outcome (Found c) ns) ⌝ }
@@ -129,6 +156,7 @@ fn take_best(g: &mut [u64], results: &[[u32; 2]], kept: &[[u64; 6]]) -> SolvedCo
     let plans = g[PLANS];
     let best = least_candidate(kept, count, start, len);
     let stats = stats_of(g, plans);
+    let needs = needs_of(g);
     let root = best.plan;
     let cost = best.cost;
     SolvedCore {
@@ -136,6 +164,7 @@ fn take_best(g: &mut [u64], results: &[[u32; 2]], kept: &[[u64; 6]]) -> SolvedCo
         cost: cost,
         plans: plans as usize,
         stats: stats,
+        needs: needs,
     }
 }
 

@@ -47,7 +47,7 @@ with-peak t n = record {
 }
 
 abbrev pub finished : Registers → ℕ → ℕ → ℕ → ℕ → ℕ → Registers
-finished s kept plans start len peak = record { tasks = s .tasks; results = s .results; pending = s .pending; memo = s .memo; kept = kept; plans = plans; start = start; len = len; builder = s .builder; stats = with-peak (s .stats) peak }
+finished s kept plans start len peak = record { tasks = s .tasks; results = s .results; pending = s .pending; memo = s .memo; kept = kept; plans = plans; start = start; len = len; builder = s .builder; stats = with-peak (s .stats) peak; peaks = s .peaks }
 
 module _ (b : Bounds) (s : Registers) (ts rs ps es ks : List Row) (fs : List ℕ) (ns : List Row) where
   pub finish-full : (n : ℕ) (f : Registers → Got) → n ≡ s .plans + new-plans fs s → b .plans < s .plans + new-plans fs s
@@ -70,8 +70,10 @@ module _ (b : Bounds) (s : Registers) (ts rs ps es ks : List Row) (fs : List ℕ
       (λ z. got (range (z .start) (z .len)) (abs z ts rs ps es ks′ fs ns′))
   unfolding finish-builder abs
   finish-go ks′ ns′ kept plans peak at snd l h e i c p =
+      let all-kept : max (s .kept) kept ≡ kept = omega (arith, e) in
+      let all-plans : max (s .plans) (s .plans + new-plans fs s) ≡ plans = omega (arith, c .count) in
       record {
-        is = rw (plans-length ns (s .plans), le-leb (s .plans + new-plans fs s) (b .plans) h, row-list-length candidate-of ks (s .kept) l, builder-length at, ← e, le-leb kept (b .kept) i, ← c .kept, ← c .plans, p);
+        is = rw (plans-length ns (s .plans), le-leb (s .plans + new-plans fs s) (b .plans) h, row-list-length candidate-of ks (s .kept) l, builder-length at, ← e, le-leb kept (b .kept) i, ← c .kept, ← c .plans, p, all-kept, all-plans);
         sound = record {
           hits = snd .hits;
           misses = snd .misses;

@@ -1,7 +1,7 @@
 -- What the registers are where words are stored.
 use mathlib.Core.Path.{_≡_, sym, ap, _∙_, subst}
 use mathlib.Core.List.{List}
-use Prim.Native.Nat.{ℕ, _+_, _≤_, _<_, _^_}
+use Prim.Native.Nat.{ℕ, _+_, _≤_, _<_, _^_, max}
 use native.Mathlib.Omega.{arith}
 use lib.ListN.{length, set}
 use Rattle.stats.specs.declared.SolveCounter.the-variants.{WorkItems, CandidatesGenerated}
@@ -12,10 +12,10 @@ use Rattle.solve_workspace.specs.declared.Registers.{Registers}
 use Rattle.solve_workspace.specs.Rows.{at, low}
 use Rattle.solve_workspace.specs.Work.{with-stats}
 use Rattle.solve_workspace.specs.Words.{low-is}
-use Rattle.solve_workspace.specs.Lent.{KEPT, PLANS, START, LEN, ROOT, HEAD, TAIL, FREE, USED, LIVE, WORK, GENERATED, PRUNED, PEAK, WORDS, regs}
+use Rattle.solve_workspace.specs.Lent.{KEPT, PLANS, START, LEN, ROOT, HEAD, TAIL, FREE, USED, LIVE, WORK, GENERATED, PRUNED, PEAK, «FRONTIER_PEAK», WORDS, regs}
 use Rattle.solve_workspace.specs.Stores.{reads, stores, now-regs}
 use Rattle.solve_builder.specs.Building.{Begun, with-builder-to}
-use Rattle.solve_builder.proofs.Presenting.{more-pruned}
+use Rattle.solve_builder.proofs.Presenting.{more-pruned, fronted}
 use Rattle.solve_builder.proofs.Finishing.{finished}
 
 module _ (g : List ℕ) (l : WORDS ≤ length g) where
@@ -28,8 +28,8 @@ module _ (g : List ℕ) (l : WORDS ≤ length g) where
   unfolding bumped
   candidate-counted = now-regs (stores GENERATED (at g GENERATED + 1) (omega arith) (stores WORK (at g WORK + 1) (omega arith) (reads g l)))
 
-  pub pruned-stored : (n : ℕ) → regs (set g PRUNED (at g PRUNED + n)) ≡ with-stats (regs g) (more-pruned (regs g .stats) n)
-  pruned-stored n = now-regs (stores PRUNED (at g PRUNED + n) (omega arith) (reads g l))
+  pub pruned-stored : (n m live : ℕ) → m ≡ max (at g «FRONTIER_PEAK») live → regs (set (set g PRUNED (at g PRUNED + n)) «FRONTIER_PEAK» m) ≡ fronted live (with-stats (regs g) (more-pruned (regs g .stats) n))
+  pruned-stored n m live e = rw (e) (now-regs (stores «FRONTIER_PEAK» (max (at g «FRONTIER_PEAK») live) (omega arith) (stores PRUNED (at g PRUNED + n) (omega arith) (reads g l))))
 
 -- the words of a finished frontier
 abbrev pub finish-words : List ℕ → ℕ → ℕ → ℕ → ℕ → ℕ → List ℕ

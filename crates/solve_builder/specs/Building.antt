@@ -28,7 +28,7 @@ pub record Slots (b : Bounds) (fs : List ℕ) : Type 0 where
 
 -- the registers with another frontier
 abbrev pub with-builder-to : Registers → Builder → Registers
-with-builder-to s f = record { tasks = s .tasks; results = s .results; pending = s .pending; memo = s .memo; kept = s .kept; plans = s .plans; start = s .start; len = s .len; builder = f; stats = s .stats }
+with-builder-to s f = record { tasks = s .tasks; results = s .results; pending = s .pending; memo = s .memo; kept = s .kept; plans = s .plans; start = s .start; len = s .len; builder = f; stats = s .stats; peaks = s .peaks }
 
 -- an empty frontier is begun; all else is as it was
 pub record Begun (o s : Registers) : Type 0 where

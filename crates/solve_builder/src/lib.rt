@@ -27,6 +27,7 @@ use plan::PlanRecord;
 use plan::PlanRoom;
 use solve_workspace::Bounds;
 use solve_workspace::FREE;
+use solve_workspace::FRONTIER_PEAK;
 use solve_workspace::GENERATED;
 use solve_workspace::HEAD;
 use solve_workspace::KEPT;
@@ -122,7 +123,9 @@ pub fn present(b: Bounds, g: &mut [u64], frontier: &mut [u64], c: ScratchCandida
         Presented::Exhausted(needed) => Turn::Halted(Why::Frontier, needed),
         Presented::Done(after, pruned) => {
             let earlier = g[PRUNED];
+            let most = solve_workspace::greater(g[FRONTIER_PEAK], after.live);
             g[PRUNED] = earlier + pruned;
+            g[FRONTIER_PEAK] = most;
             store_builder(g, after);
             Turn::Going
         }

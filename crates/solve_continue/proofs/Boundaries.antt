@@ -50,7 +50,7 @@ pub gap-fill : {b : Bounds} {k : Counts} {a : Reached} {f : Registers → Got} {
 gap-fill {b = b} {k = k} {a = a} {f = f} R P i l indent S h e m = subst (λ p. Meets b k p a f) (sym (h .yes R P (range i l) indent S e)) m
 
 abbrev with-range : Registers → ℕ → ℕ → Registers
-with-range s i l = record { tasks = s .tasks; results = s .results; pending = s .pending; memo = s .memo; kept = s .kept; plans = s .plans; start = i; len = l; builder = s .builder; stats = s .stats }
+with-range s i l = record { tasks = s .tasks; results = s .results; pending = s .pending; memo = s .memo; kept = s .kept; plans = s .plans; start = i; len = l; builder = s .builder; stats = s .stats; peaks = s .peaks }
 
 range-sound : {b : Bounds} {s : Registers} (i l : ℕ) → Sound b s → Sound b (with-range s i l)
 range-sound i l h =

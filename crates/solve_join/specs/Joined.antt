@@ -4,11 +4,11 @@ use Rattle.solve_workspace.specs.declared.Registers.{Registers}
 use Rattle.solve_workspace.specs.declared.Why.the-variants.{Domain, Stack}
 use Rattle.solve_workspace.specs.declared.Reached.{Reached}
 use Rattle.solve_workspace.specs.declared.Reached.the-variants.{Go, Stop}
-use Rattle.solve_workspace.specs.Stacks.{with-pending-to}
+use Rattle.solve_workspace.specs.Stacks.{pending-pushed}
 use Rattle.solve_join.specs.declared.Joined.{Joined}
 use Rattle.solve_join.specs.declared.Joined.the-variants.{Put, Full, Past}
 
 abbrev pub joined : Registers → Joined → Reached
-joined st Put = Go (with-pending-to st (st .pending + 1))
+joined st Put = Go (pending-pushed st)
 joined st Full = Stop Stack (st .pending + 1) st
 joined st (Past reason) = Stop (Domain reason) 0 st

@@ -25,6 +25,7 @@ use solve_workspace::Candidate;
 use solve_workspace::ExactTask;
 use solve_workspace::KEPT;
 use solve_workspace::PENDING;
+use solve_workspace::STACK_PEAK;
 use solve_workspace::Turn;
 use solve_workspace::Why;
 
@@ -35,7 +36,7 @@ pub enum Joined {
     Past(Reason),
 }
 
-// A pending candidate after the first p. The registers are not passed: only p would change.
+// A pending candidate after the first p. The registers are not passed: only p and the stack's peak would change.
 fn push_pending(
     b: Bounds,
     p: usize,
@@ -113,6 +114,7 @@ pub fn push_joined(
     let count = g[KEPT] as usize;
     let mut at = start as usize;
     let mut p = g[PENDING] as usize;
+    let mut most = g[STACK_PEAK];
     let mut left_over = len;
     while 0 < left_over {
         let right = solve_workspace::candidate_at(kept, count, at);
@@ -129,12 +131,14 @@ pub fn push_joined(
             }
             Joined::Put => {
                 p = p + 1;
+                most = solve_workspace::greater(most, p as u64);
             }
         }
         at = at + 1;
         left_over = left_over - 1;
     }
     g[PENDING] = p as u64;
+    g[STACK_PEAK] = most;
     Turn::Going
 }
 

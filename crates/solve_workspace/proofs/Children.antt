@@ -1,7 +1,7 @@
 -- A completing task and a child, pushed by one function: none has room, the first alone has, both have.
 use mathlib.Core.Path.{_≡_, refl}
 use mathlib.Core.List.{List}
-use Prim.Native.Nat.{ℕ, _+_, _≤_, _<_}
+use Prim.Native.Nat.{ℕ, _+_, _≤_, _<_, max}
 use native.Mathlib.Omega.{arith}
 use lib.ListN.{length, set, length-set}
 use Rattle.layout.specs.Rules.{Rules}
@@ -17,8 +17,8 @@ use Rattle.solve_workspace.specs.Meets.{counts, Sound, Meets}
 use Rattle.solve_workspace.specs.Rows.{Row, at, task-of, abs}
 use Rattle.solve_workspace.specs.Frames.{Keeps}
 use Rattle.solve_workspace.specs.Runs.{seq, halt}
-use Rattle.solve_workspace.specs.Stacks.{with-tasks-to, sound-tasks, task-go, task-stop}
-use Rattle.solve_workspace.specs.Lent.{TASKS, WORDS, regs, Held, reached}
+use Rattle.solve_workspace.specs.Stacks.{with-tasks-to, sound-tasks, sound-peaks, stopped-alike, tasks-pushed, task-go, task-stop}
+use Rattle.solve_workspace.specs.Lent.{TASKS, «STACK_PEAK», WORDS, regs, Held, reached}
 use Rattle.solve_workspace.specs.Stores.{reads, stores, now-regs, tasks-stored, going-meets, halted-meets, going-keeps}
 
 module _ (R : Rules) (P : Prepared) (b : Bounds) (s : Registers) (ts rs ps es ks : List Row) (fs : List ℕ) (ns : List Row) (t : Task) (q : MemoKey) where
@@ -27,31 +27,41 @@ module _ (R : Rules) (P : Prepared) (b : Bounds) (s : Registers) (ts rs ps es ks
   child-none f h = halt (push-exact-task (Eval q)) (task-stop b s ts rs ps es ks fs ns t (λ z. abs z ts rs ps es ks fs ns) h) refl
 
   child-one : (x : Row) (f : Registers → State) → task-of x ≡ t → s .tasks < b .stack → b .stack ≤ length ts → Sound b (with-tasks-to s (s .tasks + 1)) → b .stack ≤ s .tasks + 1
-      → Meets b (counts s) (push-child R P t q (abs s ts rs ps es ks fs ns)) (Stop Stack (s .tasks + 1 + 1) (with-tasks-to s (s .tasks + 1))) f
+      → Meets b (counts s) (push-child R P t q (abs s ts rs ps es ks fs ns)) (Stop Stack (s .tasks + 1 + 1) (tasks-pushed s)) f
   unfolding push-child
   child-one x f e h l z m =
       seq (push-exact-task (Eval q)) (task-go b s ts rs ps es ks fs ns x t e h l z) refl
-      (task-stop b (with-tasks-to s (s .tasks + 1)) (set ts (s .tasks) x) rs ps es ks fs ns (Eval q) f m)
+      (task-stop b (tasks-pushed s) (set ts (s .tasks) x) rs ps es ks fs ns (Eval q) f m)
 
   child-both : (x y : Row) → task-of x ≡ t → task-of y ≡ Eval q → s .tasks + 1 < b .stack → s .tasks < b .stack → b .stack ≤ length ts → b .stack ≤ length (set ts (s .tasks) x)
-      → Sound b (with-tasks-to s (s .tasks + 1)) → Sound b (with-tasks-to s (s .tasks + 1 + 1))
-      → Meets b (counts s) (push-child R P t q (abs s ts rs ps es ks fs ns)) (Go (with-tasks-to s (s .tasks + 1 + 1))) (λ z. abs z (set (set ts (s .tasks) x) (s .tasks + 1) y) rs ps es ks fs ns)
+      → Sound b (with-tasks-to s (s .tasks + 1)) → Sound b (with-tasks-to (tasks-pushed s) (s .tasks + 1 + 1))
+      → Meets b (counts s) (push-child R P t q (abs s ts rs ps es ks fs ns)) (Go (tasks-pushed (tasks-pushed s))) (λ z. abs z (set (set ts (s .tasks) x) (s .tasks + 1) y) rs ps es ks fs ns)
   unfolding push-child
   child-both x y e f h k l m z w =
       seq (push-exact-task (Eval q)) (task-go b s ts rs ps es ks fs ns x t e k l z) refl
-      (task-go b (with-tasks-to s (s .tasks + 1)) (set ts (s .tasks) x) rs ps es ks fs ns y (Eval q) f h m w)
+      (task-go b (tasks-pushed s) (set ts (s .tasks) x) rs ps es ks fs ns y (Eval q) f h m w)
 
 -- ---- over the words
 
--- pushed once, and twice
+-- pushed once; the stack's peak is raised where both are pushed, since a stop tells none
 abbrev pub once : List ℕ → List ℕ
 once g = set g TASKS (at g TASKS + 1)
 
-abbrev pub twice : List ℕ → List ℕ
-twice g = set (once g) TASKS (at g TASKS + 1 + 1)
+abbrev pub twice : List ℕ → ℕ → List ℕ
+twice g m = set (set (once g) TASKS (at g TASKS + 1 + 1)) «STACK_PEAK» m
 
-twice-stored : (g : List ℕ) → WORDS ≤ length g → regs (twice g) ≡ with-tasks-to (regs g) (at g TASKS + 1 + 1)
-twice-stored g l = now-regs (stores TASKS (at g TASKS + 1 + 1) (omega arith) (stores TASKS (at g TASKS + 1) (omega arith) (reads g l)))
+-- the first need is less than the second
+twice-peak : (p n : ℕ) → max p (n + 1 + 1) ≡ max (max p (n + 1)) (n + 1 + 1)
+twice-peak p n = omega arith
+
+module _ (g : List ℕ) (m : ℕ) (l : WORDS ≤ length g) (e : m ≡ max (at g «STACK_PEAK») (at g TASKS + 1 + 1)) where
+  twice-stored : regs (twice g m) ≡ tasks-pushed (tasks-pushed (regs g))
+  twice-stored =
+      rw (e, twice-peak (at g «STACK_PEAK») (at g TASKS))
+      (now-regs (stores «STACK_PEAK» (max (max (at g «STACK_PEAK») (at g TASKS + 1)) (at g TASKS + 1 + 1)) (omega arith) (stores TASKS (at g TASKS + 1 + 1) (omega arith) (stores TASKS (at g TASKS + 1) (omega arith) (reads g l)))))
+
+  pub twice-keeps : Keeps (regs g) (reached Going (twice g m))
+  twice-keeps = going-keeps (twice g m) twice-stored (record { by = record { memo = refl; results = refl; pending = omega arith } })
 
 module _ (R : Rules) (P : Prepared) (b : Bounds) (g : List ℕ) (ts rs ps es ks : List Row) (fs : List ℕ) (ns : List Row) (t : Task) (q : MemoKey) where
   pub none-on : (f : Registers → State) → b .stack ≤ at g TASKS → Meets b (counts (regs g)) (push-child R P t q (abs (regs g) ts rs ps es ks fs ns)) (reached (Halted Stack (at g TASKS + 1)) g) f
@@ -61,14 +71,12 @@ module _ (R : Rules) (P : Prepared) (b : Bounds) (g : List ℕ) (ts rs ps es ks 
       → Meets b (counts (regs g)) (push-child R P t q (abs (regs g) ts rs ps es ks fs ns)) (reached (Halted Stack (at g TASKS + 1 + 1)) (once g)) f
   one-on x f h e m l k =
       halted-meets (once g) (tasks-stored g (at g TASKS + 1) (h .room))
-      (child-one R P b (regs g) ts rs ps es ks fs ns t q x f e m l (sound-tasks (at g TASKS + 1) (h .sound) (omega arith)) k)
+      (stopped-alike (with-tasks-to (regs g) (at g TASKS + 1)) (tasks-pushed (regs g) .peaks)
+      (child-one R P b (regs g) ts rs ps es ks fs ns t q x f e m l (sound-tasks (at g TASKS + 1) (h .sound) (omega arith)) k))
 
-  pub both-on : (x y : Row) → Held b g → task-of x ≡ t → task-of y ≡ Eval q → at g TASKS + 1 < b .stack → b .stack ≤ length ts
-      → Meets b (counts (regs g)) (push-child R P t q (abs (regs g) ts rs ps es ks fs ns)) (reached Going (twice g)) (λ z. abs z (set (set ts (at g TASKS) x) (at g TASKS + 1) y) rs ps es ks fs ns)
-  both-on x y h e d k l =
-      going-meets (twice g) (twice-stored g (h .room))
+  pub both-on : (m : ℕ) (x y : Row) → Held b g → m ≡ max (at g «STACK_PEAK») (at g TASKS + 1 + 1) → task-of x ≡ t → task-of y ≡ Eval q → at g TASKS + 1 < b .stack → b .stack ≤ length ts
+      → Meets b (counts (regs g)) (push-child R P t q (abs (regs g) ts rs ps es ks fs ns)) (reached Going (twice g m)) (λ z. abs z (set (set ts (at g TASKS) x) (at g TASKS + 1) y) rs ps es ks fs ns)
+  both-on m x y h p e d k l =
+      going-meets (twice g m) (twice-stored g m (h .room) p)
       (child-both R P b (regs g) ts rs ps es ks fs ns t q x y e d k (omega arith) l (omega (arith, length-set ts (at g TASKS) x))
-      (sound-tasks (at g TASKS + 1) (h .sound) (omega arith)) (sound-tasks (at g TASKS + 1 + 1) (h .sound) (omega arith)))
-
-pub twice-keeps : (g : List ℕ) → WORDS ≤ length g → Keeps (regs g) (reached Going (twice g))
-twice-keeps g l = going-keeps (twice g) (twice-stored g l) (record { by = record { memo = refl; results = refl; pending = omega arith } })
+      (sound-tasks (at g TASKS + 1) (h .sound) (omega arith)) (sound-tasks (at g TASKS + 1 + 1) (sound-peaks (with-tasks-to (regs g) (at g TASKS + 1)) (tasks-pushed (regs g) .peaks) (sound-tasks (at g TASKS + 1) (h .sound) (omega arith))) (omega arith)))

@@ -1,7 +1,7 @@
 -- A task or a result pushed, and a result taken off.
 use mathlib.Core.Path.{_≡_, refl, sym, ap, _∙_, subst}
 use mathlib.Core.List.{List, [], _∷_}
-use Prim.Native.Nat.{ℕ, suc, _+_, _≤_, _<_, _^_}
+use Prim.Native.Nat.{ℕ, suc, _+_, _≤_, _<_, _^_, max}
 use native.Mathlib.Omega.{arith}
 use lib.ListN.{length, getD, set}
 use Rattle.machine.specs.Events.{ret}
@@ -14,42 +14,50 @@ use Rattle.solve_workspace.specs.declared.Turn.the-variants.{Going, Halt
 use Rattle.solve_workspace.specs.Meets.{counts, Sound, Meets}
 use Rattle.solve_workspace.specs.Rows.{Row, at, low, task-of, abs}
 use Rattle.solve_workspace.specs.Frames.{Keeps, SameMemo, Popped}
-use Rattle.solve_workspace.specs.Stacks.{with-results-to, with-range-to, sound-tasks, task-go, task-stop, result-go, result-stop, pop-is}
+use Rattle.solve_workspace.specs.Stacks.{with-results-to, with-range-to, tasks-pushed, results-pushed, sound-tasks, task-go, task-stop, result-go, result-stop, pop-is}
 use Rattle.solve_workspace.specs.Words.{low-is}
-use Rattle.solve_workspace.specs.Lent.{TASKS, RESULTS, START, LEN, WORDS, regs, Held, reached}
-use Rattle.solve_workspace.specs.Stores.{reads, stores, now-regs, tasks-stored, going-meets, halted-meets, going-keeps, going-same}
+use Rattle.solve_workspace.specs.Lent.{TASKS, RESULTS, START, LEN, «STACK_PEAK», WORDS, regs, Held, reached}
+use Rattle.solve_workspace.specs.Stores.{reads, stores, now-regs, going-meets, halted-meets, going-keeps, going-same}
 
--- ---- one word stored
+-- ---- the words after a push
 
-results-stored : (g : List ℕ) (n : ℕ) → WORDS ≤ length g → regs (set g RESULTS n) ≡ with-results-to (regs g) n
-results-stored g n l = now-regs (stores RESULTS n (omega arith) (reads g l))
+-- the word i is n, and a stack of m was needed
+abbrev pub pushed : List ℕ → ℕ → ℕ → ℕ → List ℕ
+pushed g i n m = set (set g i n) «STACK_PEAK» m
+
+module _ (g : List ℕ) (m : ℕ) (l : WORDS ≤ length g) where
+  tasks-on : m ≡ max (at g «STACK_PEAK») (at g TASKS + 1) → regs (pushed g TASKS (at g TASKS + 1) m) ≡ tasks-pushed (regs g)
+  tasks-on e = rw (e) (now-regs (stores «STACK_PEAK» (max (at g «STACK_PEAK») (at g TASKS + 1)) (omega arith) (stores TASKS (at g TASKS + 1) (omega arith) (reads g l))))
+
+  results-on : m ≡ max (at g «STACK_PEAK») (at g RESULTS + 1) → regs (pushed g RESULTS (at g RESULTS + 1) m) ≡ results-pushed (regs g)
+  results-on e = rw (e) (now-regs (stores «STACK_PEAK» (max (at g «STACK_PEAK») (at g RESULTS + 1)) (omega arith) (stores RESULTS (at g RESULTS + 1) (omega arith) (reads g l))))
+
+  pub tasks-keeps : m ≡ max (at g «STACK_PEAK») (at g TASKS + 1) → Keeps (regs g) (reached Going (pushed g TASKS (at g TASKS + 1) m))
+  tasks-keeps e = going-keeps (pushed g TASKS (at g TASKS + 1) m) (tasks-on e) (record { by = record { memo = refl; results = refl; pending = omega arith } })
+
+  pub results-same : m ≡ max (at g «STACK_PEAK») (at g RESULTS + 1) → SameMemo (regs g) (reached Going (pushed g RESULTS (at g RESULTS + 1) m))
+  results-same e = going-same (pushed g RESULTS (at g RESULTS + 1) m) (results-on e) (record { by = refl })
 
 sound-results : {b : Bounds} {s : Registers} (n : ℕ) → Sound b s → n ≤ b .stack → Sound b (with-results-to s n)
 sound-results n h l = record { hits = h .hits; misses = h .misses; generated = h .generated; pruned = h .pruned; work = h .work; tasks = h .tasks; results = l; pending = h .pending; memo = h .memo; kept = h .kept; plans = h .plans; stack = h .stack }
 
-pub tasks-keeps : (g : List ℕ) (n : ℕ) → WORDS ≤ length g → Keeps (regs g) (reached Going (set g TASKS n))
-tasks-keeps g n l = going-keeps (set g TASKS n) (tasks-stored g n l) (record { by = record { memo = refl; results = refl; pending = omega arith } })
-
-pub results-same : (g : List ℕ) (n : ℕ) → WORDS ≤ length g → SameMemo (regs g) (reached Going (set g RESULTS n))
-results-same g n l = going-same (set g RESULTS n) (results-stored g n l) (record { by = refl })
-
 -- ---- pushed
 
 module _ (b : Bounds) (g : List ℕ) (ts rs ps es ks : List Row) (fs : List ℕ) (ns : List Row) where
-  pub task-on : (x : Row) (t : Task) → Held b g → task-of x ≡ t → at g TASKS < b .stack → b .stack ≤ length ts
-      → Meets b (counts (regs g)) (push-exact-task t (abs (regs g) ts rs ps es ks fs ns)) (reached Going (set g TASKS (at g TASKS + 1))) (λ z. abs z (set ts (at g TASKS) x) rs ps es ks fs ns)
-  task-on x t h e m r =
-      going-meets (set g TASKS (at g TASKS + 1)) (tasks-stored g (at g TASKS + 1) (h .room))
-      (task-go b (regs g) ts rs ps es ks fs ns x t e m r (sound-tasks (at g TASKS + 1) (h .sound) (omega arith)))
+  pub task-on : (m : ℕ) (x : Row) (t : Task) → Held b g → m ≡ max (at g «STACK_PEAK») (at g TASKS + 1) → task-of x ≡ t → at g TASKS < b .stack → b .stack ≤ length ts
+      → Meets b (counts (regs g)) (push-exact-task t (abs (regs g) ts rs ps es ks fs ns)) (reached Going (pushed g TASKS (at g TASKS + 1) m)) (λ z. abs z (set ts (at g TASKS) x) rs ps es ks fs ns)
+  task-on m x t h p e k r =
+      going-meets (pushed g TASKS (at g TASKS + 1) m) (tasks-on g m (h .room) p)
+      (task-go b (regs g) ts rs ps es ks fs ns x t e k r (sound-tasks (at g TASKS + 1) (h .sound) (omega arith)))
 
   pub task-full : (t : Task) (f : Registers → State) → b .stack ≤ at g TASKS → Meets b (counts (regs g)) (push-exact-task t (abs (regs g) ts rs ps es ks fs ns)) (reached (Halted Stack (at g TASKS + 1)) g) f
   task-full t f h = halted-meets g refl (task-stop b (regs g) ts rs ps es ks fs ns t f h)
 
-  pub result-on : (i l : ℕ) → Held b g → at g RESULTS < b .stack → b .stack ≤ length rs
-      → Meets b (counts (regs g)) (push-exact-result (range i l) (abs (regs g) ts rs ps es ks fs ns)) (reached Going (set g RESULTS (at g RESULTS + 1))) (λ z. abs z ts (set rs (at g RESULTS) (i ∷ l ∷ [])) ps es ks fs ns)
-  result-on i l h m r =
-      going-meets (set g RESULTS (at g RESULTS + 1)) (results-stored g (at g RESULTS + 1) (h .room))
-      (result-go b (regs g) ts rs ps es ks fs ns i l m r (sound-results (at g RESULTS + 1) (h .sound) (omega arith)))
+  pub result-on : (m i l : ℕ) → Held b g → m ≡ max (at g «STACK_PEAK») (at g RESULTS + 1) → at g RESULTS < b .stack → b .stack ≤ length rs
+      → Meets b (counts (regs g)) (push-exact-result (range i l) (abs (regs g) ts rs ps es ks fs ns)) (reached Going (pushed g RESULTS (at g RESULTS + 1) m)) (λ z. abs z ts (set rs (at g RESULTS) (i ∷ l ∷ [])) ps es ks fs ns)
+  result-on m i l h p k r =
+      going-meets (pushed g RESULTS (at g RESULTS + 1) m) (results-on g m (h .room) p)
+      (result-go b (regs g) ts rs ps es ks fs ns i l k r (sound-results (at g RESULTS + 1) (h .sound) (omega arith)))
 
   pub result-full : (i l : ℕ) (f : Registers → State) → b .stack ≤ at g RESULTS → Meets b (counts (regs g)) (push-exact-result (range i l) (abs (regs g) ts rs ps es ks fs ns)) (reached (Halted Stack (at g RESULTS + 1)) g) f
   result-full i l f h = halted-meets g refl (result-stop b (regs g) ts rs ps es ks fs ns i l f h)
@@ -75,4 +83,4 @@ module _ (g : List ℕ) (i x y : ℕ) (l : WORDS ≤ length g) (h : x < 2 ^ 32) 
   pub popped-leaves : at g RESULTS ≡ suc i → Popped (regs g) (regs (ranged g i x y))
   popped-leaves e =
       subst (λ (s : Registers). Popped (regs g) s) (sym range-stored)
-      (record { results = omega arith; tasks = refl; pending = refl; memo = refl; kept = refl; plans = refl; builder = refl; stats = refl })
+      (record { results = omega arith; tasks = refl; pending = refl; memo = refl; kept = refl; plans = refl; builder = refl; stats = refl; peaks = refl })

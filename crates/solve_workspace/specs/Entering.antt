@@ -2,7 +2,7 @@
 use mathlib.Core.Path.{_≡_, refl, sym, _∙_, subst}
 use mathlib.Core.Bool.{Bool, true, false}
 use mathlib.Core.List.{List, [], _∷_}
-use Prim.Native.Nat.{ℕ, zero, suc, _+_, _≤_, _<_, _^_}
+use Prim.Native.Nat.{ℕ, zero, suc, _+_, _≤_, _<_, _^_, max}
 use native.Mathlib.Numerals.{add-one}
 use native.Mathlib.Omega.{arith}
 use borrow.Author.Tests.{le-leb, lt-leb}
@@ -55,6 +55,7 @@ found-narrow (x ∷ xs) q r (one-entry p k) e = go (same (x .key) q) e (found-na
     go true f g = let y : x .range ≡ r = cc in rw (← y) (p .start, p .len)
     go false f g = g f
 
+-- n entries, where one more than there were was needed
 abbrev pub with-memo-to : Registers → ℕ → Registers
 with-memo-to s n = record {
   tasks = s .tasks;
@@ -78,6 +79,7 @@ with-memo-to s n = record {
     «plan_nodes» = s .stats .«plan_nodes»;
     visits = s .stats .visits;
   };
+  peaks = record { stack = s .peaks .stack; memo = max (s .peaks .memo) (s .memo + 1); frontier = s .peaks .frontier };
 }
 
 pub entered-few : {ss : List ℕ} {es : List Row} {n size : ℕ} {ss′ : List ℕ} {es′ : List Row} {e : Entry} {m : ℕ} → Entered ss es n size ss′ es′ e m → m ≤ size

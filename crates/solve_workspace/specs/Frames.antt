@@ -42,6 +42,7 @@ pub record Popped (o s : Registers) : Type 0 where
   pub plans : s .plans ≡ o .plans
   pub builder : s .builder ≡ o .builder
   pub stats : s .stats ≡ o .stats
+  pub peaks : s .peaks ≡ o .peaks
 
 -- a range of numbers of 32 bits
 pub record Narrow (e : Entry) : Type 0 where

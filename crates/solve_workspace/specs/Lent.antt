@@ -78,9 +78,19 @@ PEAK = 19
 abbrev pub ENTRIES : ℕ
 ENTRIES = 20
 
+-- the peaks
+abbrev pub «STACK_PEAK» : ℕ
+«STACK_PEAK» = 21
+
+abbrev pub «MEMO_PEAK» : ℕ
+«MEMO_PEAK» = 22
+
+abbrev pub «FRONTIER_PEAK» : ℕ
+«FRONTIER_PEAK» = 23
+
 -- how many there are
 abbrev pub WORDS : ℕ
-WORDS = 21
+WORDS = 24
 
 -- the registers whose words are w. Fit checks, plan nodes and visits are 0 while the solver runs
 abbrev pub of-words : (ℕ → ℕ) → Registers
@@ -106,6 +116,7 @@ of-words w = record {
     «plan_nodes» = 0;
     visits = 0;
   };
+  peaks = record { stack = w «STACK_PEAK»; memo = w «MEMO_PEAK»; frontier = w «FRONTIER_PEAK» };
 }
 
 abbrev pub regs : List ℕ → Registers

@@ -2,8 +2,10 @@
 use mathlib.Core.Path.{_≡_}
 use Prim.Native.Nat.{_+_, _≤_, _<_, _^_}
 use Rattle.stats.specs.declared.SolveStats.{SolveStats}
-use Rattle.machine.specs.Events.{Bounds as Limits, Counts, Event, Prog, ret, emit, Out, done, stop, run, Why as Reasons, domain, work-spent, too-small, stack, memo, kept, frontier, plans}
+use Rattle.machine.specs.Events.{Bounds as Limits, Counts, no-needs, with-needs, Event, Prog, ret, emit, Out, done, stop, run, Why as Reasons, domain, work-spent, too-small, stack, memo, kept, frontier, plans}
+use Rattle.machine.specs.Events.{Needs as Needed}
 use Rattle.solve_workspace.specs.declared.Bounds.{Bounds}
+use Rattle.solve_workspace.specs.declared.Needs.{Needs}
 use Rattle.solve_workspace.specs.declared.Registers.{Registers}
 use Rattle.solve_workspace.specs.declared.Why.{Why}
 use Rattle.solve_workspace.specs.declared.Why.the-variants.{Domain, Work, Stack, Memo, Kept, Frontier, Plans}
@@ -26,7 +28,7 @@ limits b = record {
   visit-limit = b .«visit_limit»;
 }
 
--- the machine's counts: all but the fit checks, which stay 0
+-- the machine's counts: all but the fit checks, which stay 0; without needs
 abbrev pub tally : SolveStats → Counts
 tally t = record {
   work-items = t .«work_items»;
@@ -38,10 +40,39 @@ tally t = record {
   memo-entries = t .«memo_entries»;
   plan-nodes = t .«plan_nodes»;
   visits = t .visits;
+  needs = no-needs;
+}
+
+-- the machine's needs
+abbrev pub needs-told : Needs → Needed
+needs-told q = record {
+  stack = q .stack;
+  memo = q .memo;
+  kept = q .kept;
+  frontier = q .frontier;
+  plans = q .plans;
+  visit = q .visit;
+  depth = q .depth;
+  output = q .output;
+  spans = q .spans;
+}
+
+-- what the solver has needed so far; the other kinds are the materializer's
+abbrev pub needs-in : Registers → Needed
+needs-in s = record {
+  stack = s .peaks .stack;
+  memo = s .peaks .memo;
+  kept = s .kept;
+  frontier = s .peaks .frontier;
+  plans = s .plans;
+  visit = 0;
+  depth = 0;
+  output = 0;
+  spans = 0;
 }
 
 abbrev pub counts : Registers → Counts
-counts s = tally (s .stats)
+counts s = with-needs (tally (s .stats)) (needs-in s)
 
 -- the machine's reasons
 abbrev pub reason : Why → Reasons
@@ -53,10 +84,10 @@ reason Kept = too-small kept
 reason Frontier = too-small frontier
 reason Plans = too-small plans
 
--- what the code has reached, as the machine's outcome; f reads the result out of the registers that it leaves
+-- what the code has reached, as the machine's outcome; f reads the result out of the registers that it leaves. A stop tells no needs
 abbrev pub out : {A : Type 0} → Reached → (Registers → A) → Out A
 out (Go s) f = done (counts s) (f s)
-out (Stop why needed s) f = stop (reason why) needed (counts s)
+out (Stop why needed s) f = stop (reason why) needed (tally (s .stats))
 
 -- what holds of the registers between the operations
 pub record Sound (b : Bounds) (s : Registers) : Type 0 where

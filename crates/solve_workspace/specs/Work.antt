@@ -20,7 +20,7 @@ use Rattle.solve_workspace.specs.Frames.{Popped}
 use Rattle.solve_workspace.specs.Lent.{regs, Held}
 
 abbrev pub with-stats : Registers → SolveStats → Registers
-with-stats s t = record { tasks = s .tasks; results = s .results; pending = s .pending; memo = s .memo; kept = s .kept; plans = s .plans; start = s .start; len = s .len; builder = s .builder; stats = t }
+with-stats s t = record { tasks = s .tasks; results = s .results; pending = s .pending; memo = s .memo; kept = s .kept; plans = s .plans; start = s .start; len = s .len; builder = s .builder; stats = t; peaks = s .peaks }
 
 pub hit-go : (b : Bounds) (s : Registers) (t : SolveStats) → t ≡ bumped (bumped (s .stats) WorkItems) MemoHits → s .stats .«work_items» < b .«work_limit» → Sound b s
     → (ts rs ps es ks : List Row) (fs : List ℕ) (ns : List Row) → Meets b (counts s) (ticked Hit (abs s ts rs ps es ks fs ns)) (Go (with-stats s t)) (λ z. abs z ts rs ps es ks fs ns)
@@ -68,4 +68,4 @@ pub popped-held : {b : Bounds} {g h : List ℕ} → Popped (regs g) (regs h) →
 popped-held p e r = record { room = omega (arith, r .room); sound = popped-sound p (r .sound) }
 
 pub popped-from : {A : Type 0} {b : Bounds} {o s : Registers} {p : Prog A} {a : Reached} {f : Registers → A} → Popped o s → Meets b (counts s) p a f → Meets b (counts o) p a f
-popped-from {b = b} {o = o} {p = p} {a = a} {f = f} q h = subst (λ k. Meets b (tally k) p a f) (q .stats) h
+popped-from {b = b} {o = o} {p = p} {a = a} {f = f} q h = rw (← q .stats, ← q .peaks, ← q .kept, ← q .plans) h

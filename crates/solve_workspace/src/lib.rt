@@ -2,7 +2,7 @@
 // An operation takes only the slices that it touches; its contract holds for whatever the others are.
 ghost use mathlib.Core.Path.{_≡_};
 ghost use mathlib.Core.List.{List, []};
-ghost use Prim.Native.Nat.{ℕ, _+_, _≤_, _<_, _%_, _^_};
+ghost use Prim.Native.Nat.{ℕ, _+_, _≤_, _<_, _%_, _^_, max};
 ghost use lib.ListN.{length, getD};
 ghost use Rattle.machine.specs.Events.{ret, Hit, Miss, number};
 ghost use Rattle.layout.specs.Rules.{Rules};
@@ -44,6 +44,19 @@ pub struct Bounds {
     pub visit_limit: u64,
 }
 
+// The greatest size needed of each kind, in the order of 13 to 21 (document 02, change 10): the sizes with which a page just comes.
+pub struct Needs {
+    pub stack: u32,
+    pub memo: u32,
+    pub kept: u32,
+    pub frontier: u32,
+    pub plans: u32,
+    pub visit: u32,
+    pub depth: u32,
+    pub output: u32,
+    pub spans: u32,
+}
+
 // The settings (document 01, "Calls", and document 02, change 5).
 pub struct RenderOptions {
     pub width: u32,
@@ -63,7 +76,14 @@ pub fn cost_model(options: RenderOptions) -> PreparedConsumerCostModel
     }
 }
 
-// How far each store is filled, the range that was popped or finished last, the frontier that is being built, and the counts: what contracts say of the words.
+// The greatest size needed so far of the kinds whose stores do not only grow (document 02, change 10). Kept candidates and plans only grow: of them it is how many there are.
+pub struct Peaks {
+    pub stack: usize,
+    pub memo: usize,
+    pub frontier: usize,
+}
+
+// How far each store is filled, the range that was popped or finished last, the frontier that is being built, the counts and the peaks: what contracts say of the words.
 // The code lends the words themselves.
 pub struct Registers {
     pub tasks: usize,
@@ -76,6 +96,7 @@ pub struct Registers {
     pub len: u32,
     pub builder: Builder,
     pub stats: SolveStats,
+    pub peaks: Peaks,
 }
 
 // Why the solver stops.
@@ -162,8 +183,15 @@ pub const PEAK: usize = 19;
 
 pub const ENTRIES: usize = 20;
 
+// The peaks:
+pub const STACK_PEAK: usize = 21;
+
+pub const MEMO_PEAK: usize = 22;
+
+pub const FRONTIER_PEAK: usize = 23;
+
 // How many words there are:
-pub const WORDS: usize = 21;
+pub const WORDS: usize = 24;
 
 // A sequence's edges, indent and kind are those of its key's node, and are read again there.
 pub enum ExactTask {
@@ -301,6 +329,16 @@ pub fn wide(number: u32) -> u64
     number as u64
 }
 
+// The greater of two words.
+pub fn greater(a: u64, b: u64) -> u64
+    ensures { λ r. ⌜ r ≡ max a b ⌝ }
+{
+    if a < b {
+        return b;
+    }
+    a
+}
+
 // Kept candidate `index` of `count`. No run asks for one past the end; the answer there is the definition's.
 pub fn candidate_at(kept: &[[u64; 6]], count: usize, index: usize) -> Candidate
     requires { ⌜ count ≤ length (now kept) ⌝ }
@@ -344,7 +382,10 @@ pub fn push_exact_task(b: Bounds, g: &mut [u64], tasks: &mut [[u32; 9]], task: E
     }
     let row = task_row(task);
     tasks[t] = row;
-    g[TASKS] = (t + 1) as u64;
+    let top = (t + 1) as u64;
+    let most = greater(g[STACK_PEAK], top);
+    g[TASKS] = top;
+    g[STACK_PEAK] = most;
     Turn::Going
 }
 
@@ -366,7 +407,10 @@ pub fn push_exact_result(
         return Turn::Halted(Why::Stack, needed);
     }
     results[r] = [start, len];
-    g[RESULTS] = (r + 1) as u64;
+    let top = (r + 1) as u64;
+    let most = greater(g[STACK_PEAK], top);
+    g[RESULTS] = top;
+    g[STACK_PEAK] = most;
     Turn::Going
 }
 
@@ -483,8 +527,10 @@ pub fn memo_insert(
         MemoInsertion::Full { needed } => Turn::Halted(Why::Memo, needed),
         MemoInsertion::Inserted(n) => {
             let entered = n as u64;
+            let most = greater(g[MEMO_PEAK], count as u64 + 1);
             g[MEMO] = entered;
             g[ENTRIES] = entered;
+            g[MEMO_PEAK] = most;
             Turn::Going
         }
     }
@@ -525,6 +571,7 @@ pub fn push_child(
     ensures keeps { λ a. ⌜ Keeps (regs (now (g .entry))) (reached a (now (g .exit))) ⌝ }
 {
     let t = g[TASKS] as usize;
+    let peak = g[STACK_PEAK];
     let size = b.stack as usize;
     if size <= t {
         let needed = (t + 1) as u64;
@@ -540,6 +587,9 @@ pub fn push_child(
     }
     let inner = task_row(ExactTask::Eval(child));
     tasks[u] = inner;
-    g[TASKS] = (u + 1) as u64;
+    let top = (u + 1) as u64;
+    let most = greater(peak, top);
+    g[TASKS] = top;
+    g[STACK_PEAK] = most;
     Turn::Going
 }

@@ -11,6 +11,7 @@ use cost::ConsumerCost;
 use page_text::render_sized;
 use render::page::Rendered;
 use solve_workspace::Bounds;
+use solve_workspace::Needs;
 use solve_workspace::RenderOptions;
 use stats::SolveStats;
 use test_lines::Line;
@@ -185,7 +186,21 @@ fn print_counts(k: SolveStats) {
         k.visits,
     ];
     print_numbers(b"counts", &counts);
-    io::write_all(1, b"\n");
+}
+
+fn print_needs(q: Needs) {
+    let needs = [
+        q.stack as u64,
+        q.memo as u64,
+        q.kept as u64,
+        q.frontier as u64,
+        q.plans as u64,
+        q.visit as u64,
+        q.depth as u64,
+        q.output as u64,
+        q.spans as u64,
+    ];
+    print_numbers(b"needs", &needs);
 }
 
 fn print_byte(b: u8) {
@@ -270,13 +285,16 @@ fn print_answer(r: Rendered, output: &[u8], spans: &[[u64; 4]]) {
             length,
             spans: count,
             stats,
+            needs,
         } => {
             print_page(output, length);
             print_cost(cost);
             print_spans(spans, count);
             print_counts(stats);
+            print_needs(needs);
         }
     }
+    io::write_all(1, b"\n");
 }
 
 // ---- the call
@@ -316,7 +334,7 @@ fn all(input: &[u8]) {
 }
 
 fn main() {
-    let mut input = [0u8; 262144];
+    let mut input = [0u8; 524288];
     let n = io::read_full(0, &mut input);
     all(&input[..n]);
 }

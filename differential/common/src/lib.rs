@@ -98,6 +98,7 @@ impl Sizes {
     pub const LARGE: Sizes =
         Sizes::of([1 << 20, 1 << 18, 1 << 20, 1 << 18, 1 << 20, 1 << 20, 1 << 16, 1 << 24, 1 << 20]);
     pub const MOST: Sizes = Sizes::of([u32::MAX; 9]);
+    pub const NONE: Sizes = Sizes::of([0; 9]);
     pub const NAMES: [&'static str; 9] =
         ["stack", "memo", "kept", "frontier", "plans", "visit", "depth", "output", "spans"];
 
@@ -182,6 +183,8 @@ pub struct Page {
     pub overflow: u128,
     pub burden: u64,
     pub counts: Counts,
+    /// The greatest size needed of each kind. A refusal has none.
+    pub needs: Sizes,
 }
 
 /// A refusal: document 01's number, the needed size (13 to 21, otherwise 0), the counts at the stop.
@@ -238,8 +241,13 @@ pub fn describe(answer: &Answer) -> String {
             refusal.counts
         }
     };
-    let pairs: Vec<String> =
-        Counts::NAMES.iter().zip(counts.list()).map(|(name, value)| format!("{name} {value}")).collect();
-    out.push_str(&format!("counts {}\n", pairs.join(", ")));
+    let named = |names: &[&str], list: &[u64]| {
+        let pairs: Vec<String> = names.iter().zip(list).map(|(name, value)| format!("{name} {value}")).collect();
+        pairs.join(", ")
+    };
+    out.push_str(&format!("counts {}\n", named(&Counts::NAMES, &counts.list())));
+    if let Ok(page) = answer {
+        out.push_str(&format!("needs {}\n", named(&Sizes::NAMES, &page.needs.list().map(u64::from))));
+    }
     out
 }

@@ -42,18 +42,15 @@ fn subject(rows: u64, width: u32) -> Subject {
     let settings = Settings { width, newline_cost: 1, policy: 0, rule: 1 };
     let limits = common::Limits { work: 1 << 40, visits: 1 << 40 };
     let probe = Sizes { output: 1 << 24, ..PROBE };
-    let (answer, trace) = model::render(&tables, &settings, &probe, &limits);
-    let page = answer.expect("a page");
-    let sizes = Sizes::of(trace.needs.map(|need| need as u32));
+    let page = model::render(&tables, &settings, &probe, &limits).0.expect("a page");
     let file = model::file::encode(&tables).expect("within the file's limits");
-    Subject { file, tables, settings, sizes, counts: page.counts, page: page.bytes.len() }
+    Subject { file, tables, settings, sizes: page.needs, counts: page.counts, page: page.bytes.len() }
 }
 
 /// One of the parts above.
 fn run(subject: &Subject, number: u64, times: u64) -> u64 {
     let Subject { file, tables, settings, .. } = subject;
-    let [stack, memo, kept, frontier, plans, visit, depth, output, spans] = subject.sizes.list();
-    let mut printer = Printer::new(gannozhi::Sizes { stack, memo, kept, frontier, plans, visit, depth, output, spans });
+    let mut printer = Printer::new(gannozhi::Sizes::of(subject.sizes.list()));
     let Settings { width, newline_cost, policy, rule } = *settings;
     let set = gannozhi::Settings { width, newline_cost, policy, rule };
     let document = reference::access::document(tables);

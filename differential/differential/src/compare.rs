@@ -1,6 +1,6 @@
 //! One comparison: the model, the reference, brute force and our library on the same call.
 
-use common::{describe, to_hex, Answer, Counts, Limits, Settings, Sizes, Tables};
+use common::{describe, to_hex, Answer, Counts, Limits, Page, Settings, Sizes, Tables};
 use model::file::WriteRefusal;
 use reference::access::Document;
 
@@ -42,6 +42,10 @@ pub struct Tally {
     pub ill: u64,
     pub past_64: u64,
     pub limit_checks: u64,
+    /// Pages whose needs were tried, and of these by the reference; the calls with one size smaller, and of these by the reference. They are
+    /// not among the cases.
+    pub needs: [u64; 2],
+    pub smaller: [u64; 2],
     /// Documents drawn apart, in which something comes near the end of its width.
     pub near: u64,
     /// Documents drawn apart, of lines past a narrow page.
@@ -115,6 +119,18 @@ pub fn counts(answer: &Answer) -> Counts {
     }
 }
 
+/// What a page's needs have to do with the rest of it: plans only grow, no key is entered into the memo twice, and a frontier that is finished
+/// was at work before.
+fn fit(page: &Page, sizes: &Sizes) -> bool {
+    let (needs, counts) = (page.needs, page.counts);
+    let told = [needs.memo, needs.plans, needs.output, needs.spans].map(u64::from);
+    told == [counts.memo_entries, counts.plan_nodes, page.bytes.len() as u64, page.spans.len() as u64]
+        && u64::from(needs.frontier) >= counts.peak_frontier
+        && needs.depth <= needs.spans
+        && [needs.stack, needs.memo, needs.kept, needs.frontier, needs.plans, needs.visit].iter().all(|need| *need > 0)
+        && needs.list().iter().zip(sizes.list()).all(|(need, size)| *need <= size)
+}
+
 impl Comparer {
     pub fn difference(&mut self, what: &str, call: &Call, left: &str, right: &str) {
         self.tally.differences += 1;
@@ -148,13 +164,21 @@ impl Comparer {
             self.tally.second_rule += 1;
             self.tally.second_pages[0] += u64::from(modelled.as_ref().is_ok_and(|page| page.overflow > 0));
         }
-        if let Some((what, other)) = self.unlike(call, document, &modelled) {
-            self.difference(what, call, &describe(&other), &describe(&modelled));
+        self.hold(call, document, &modelled);
+        modelled
+    }
+
+    /// The reference's answer (where it can give one) and ours (where it is linked) are the model's; and a page's needs fit the rest of it.
+    pub fn hold(&mut self, call: &Call, document: Option<(&Tables, &Document)>, modelled: &Answer) {
+        if modelled.as_ref().is_ok_and(|page| !fit(page, &call.sizes)) {
+            self.difference("needs do not fit the page", call, &describe(modelled), "");
+        }
+        if let Some((what, other)) = self.unlike(call, document, modelled) {
+            self.difference(what, call, &describe(&other), &describe(modelled));
             if let Some((tables, _)) = document {
                 self.smallest(call, tables);
             }
         }
-        modelled
     }
 
     /// Which texts are well formed: the model, held to the standard library.

@@ -2,10 +2,11 @@
 //! files that differ in one byte, or are cut short, from a few small ones; every map byte beside every kind byte; all short texts.
 
 use common::{kind, Limits, Node, Settings, Sizes, Tables, Text};
+use generate::Rng;
 
 use crate::compare::{Call, Comparer, LIMITS};
 use crate::fixed::Build;
-use crate::{fixed, pairs, texts};
+use crate::{fixed, needs, pairs, texts};
 
 pub fn run(comparer: &mut Comparer, nodes: usize, progress: &mut dyn FnMut(&Comparer)) {
     let texts = vec![
@@ -112,6 +113,11 @@ fn calls(comparer: &mut Comparer, tables: &mut Tables) {
     }
     comparer.tally.documents += 1;
     let document = reference::access::document(tables);
+    // The needs are tried under one setting of each document.
+    let rng = &mut Rng::new(comparer.tally.documents);
+    let [width, newline_cost, policy, rule] =
+        [(1, 3), (0, 1), (0, 1), (1, 2)].map(|(least, most)| rng.within(least, most));
+    let drawn = Settings { width, newline_cost, policy, rule };
     for width in 1..=3 {
         for newline_cost in 0..=1 {
             for policy in 0..=1 {
@@ -120,6 +126,9 @@ fn calls(comparer: &mut Comparer, tables: &mut Tables) {
                     let call = Call { file: &file, settings, sizes: Sizes::PAGE, limits: LIMITS };
                     let answer = comparer.call(&call, Some((tables, &document)));
                     comparer.enumerate(&call, tables, &answer);
+                    if settings == drawn {
+                        needs::run(comparer, rng, &call, (tables, &document), &answer);
+                    }
                     answer
                 });
                 comparer.other_page(&second, &first);
@@ -129,9 +138,13 @@ fn calls(comparer: &mut Comparer, tables: &mut Tables) {
 }
 
 fn files(comparer: &mut Comparer, progress: &mut dyn FnMut(&Comparer)) {
-    let cases = fixed::cases();
-    let seeds = cases.iter().filter(|case| case.file.len() < 160);
-    for case in seeds {
+    let mut cases = fixed::cases();
+    cases.retain(|case| case.file.len() < 160);
+    for (at, case) in cases.iter().enumerate() {
+        // Cases that differ in sizes or limits alone are one here.
+        if cases[..at].iter().any(|other| other.file == case.file && other.settings == case.settings) {
+            continue;
+        }
         for cut in 0..case.file.len() {
             one(comparer, case, &case.file[..cut]);
         }

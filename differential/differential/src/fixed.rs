@@ -1,7 +1,9 @@
-//! The hand-checked cases of document 01, the separating inputs of docs/DECISIONS.md and calls under cost rule 2, each with what it must
-//! give. They are run on the model and (under rule 1) on the reference at the start of every run, and open the frozen sample.
+//! The hand-checked cases of document 01, the separating inputs of docs/DECISIONS.md, calls under cost rule 2 and pages with their needs, each
+//! with what it must give. They are run on the model and (under rule 1) on the reference at the start of every run, and open the frozen sample.
 
 use common::{from_hex, kind, Limits, Node, Settings, Sizes, Tables, Text};
+
+use crate::needs::with;
 
 pub struct Case {
     pub name: &'static str,
@@ -17,6 +19,8 @@ pub enum Want {
     Page(&'static str, u128, u64, Option<u64>),
     /// Number, needed, and the work.
     Refused(u32, u64, Option<u64>),
+    /// The page, its peak frontier, and its needs.
+    Needs(&'static str, u64, [u32; 9]),
 }
 
 /// The tables of a small document; text 0 is the space.
@@ -57,6 +61,16 @@ impl Build {
         for _ in 0..times {
             node = self.list(kind::SEQ, &vec![node; many]);
         }
+        node
+    }
+
+    /// A Choice with a choice list.
+    fn listed(&mut self, preferred: u32, alternative: u32, list: &[u32], skipped: u32) -> u32 {
+        let choice_start = self.0.choice_edges.len() as u32;
+        self.0.choice_edges.extend(list);
+        let node = self.node(kind::CHOICE, preferred, alternative);
+        let choice_length = list.len() as u32;
+        self.0.nodes[node as usize] = Node { choice_start, choice_length, skipped, ..self.0.nodes[node as usize] };
         node
     }
 
@@ -109,7 +123,7 @@ pub fn cases() -> Vec<Case> {
     };
     let usual = settings(80, 1, 0);
     let (page, none) = (Sizes::PAGE, Limits::PAGE);
-    use Want::{Page, Refused};
+    use Want::{Needs, Page, Refused};
 
     // Document 01, checked by hand.
     add("one Empty", hex("h 0000 sp"), usual, page, none, Page("", 0, 0, Some(2)));
@@ -488,6 +502,56 @@ pub fn cases() -> Vec<Case> {
         ("113: burden of 2^64 newlines", lines(4, 32, 0), 1, Refused(26, 0, None)),
     ] {
         add(name, file, second(1, newline_cost), page, none, want);
+    }
+
+    // Needs (116 to 119). The frontier holds 1, 2, then 1 candidate: the Empty ends further left and costs less.
+    let mut b = Build::new();
+    let [a, bb] = ["a", "bb"].map(|text| b.text(text)).map(|text| b.node(kind::PENALTY, 1, text));
+    let empty = b.node(kind::EMPTY, 0, 0);
+    let rest = b.node(kind::CHOICE, bb, empty);
+    b.listed(a, rest, &[a, bb, empty], 1);
+    let held = b.file();
+    // Tasks: one for each Align on the way, and one.
+    let mut b = Build::new();
+    (0..5).fold(b.node(kind::EMPTY, 0, 0), |node, _| b.node(kind::ALIGN, node, 0));
+    let tasks = b.file();
+    // Results: three of the longer list, and behind them those of the shorter one. Tasks are 5 at most.
+    let mut b = Build::new();
+    let empty = b.node(kind::EMPTY, 0, 0);
+    let pair = b.node(kind::CHOICE, empty, empty);
+    let shorter = b.listed(empty, pair, &[empty; 3], 1);
+    let last = b.node(kind::CHOICE, empty, shorter);
+    let rest = b.node(kind::CHOICE, empty, last);
+    b.listed(empty, rest, &[empty, empty, empty, shorter], 2);
+    let results = b.file();
+    // Pending: each of three candidates behind each of three.
+    let mut b = Build::new();
+    let [a, bb, ccc] = ["a", "bb", "ccc"].map(|text| b.text(text));
+    let rest = b.node(kind::CHOICE, bb, ccc);
+    let any = b.node(kind::CHOICE, a, rest);
+    b.list(kind::SEQ, &[any, any]);
+    let pending = b.file();
+    let mut b = Build::new();
+    let line = b.node(kind::HARD_LINE, 0, 0);
+    b.node(kind::NEST, 3, line);
+    let nest = b.file();
+    // Each at its needs, and with one of them smaller. Needed is then the first size that is not met, of a newline's spaces one after the other.
+    let output = [("119: HardLine in Nest 3, output 3", 20, 3, 4), ("119: HardLine in Nest 3, output 1", 20, 1, 2)];
+    for (name, file, (text, peak), needs, smaller) in [
+        ("116: frontier", held, ("", 1), [5, 6, 6, 2, 5, 1, 0, 0, 0], &[("116: frontier 1", 16, 1, 2)][..]),
+        ("117: tasks", tasks, ("", 1), [6, 6, 1, 1, 1, 1, 0, 0, 0], &[("117: tasks, stack 5", 13, 5, 6)]),
+        ("117: results", results, ("", 1), [6, 3, 3, 1, 1, 1, 0, 0, 0], &[("117: results, stack 5", 13, 5, 6)]),
+        ("117: pending", pending, ("aa", 5), [9, 21, 37, 5, 17, 2, 0, 2, 0], &[("117: pending, stack 8", 13, 8, 9)]),
+        ("118: one Empty", hex("h 0000 sp"), ("", 1), [1, 1, 1, 1, 1, 1, 0, 0, 0], &[]),
+        ("118: ab", ab(), ("ab", 1), [1, 1, 1, 1, 1, 1, 0, 2, 0], &[("118: ab, memo 0", 14, 0, 1)]),
+        ("119: HardLine in Nest 3", nest, ("\n   ", 1), [2, 2, 1, 1, 1, 1, 0, 4, 0], &output),
+    ] {
+        let just = Sizes::of(needs);
+        add(name, file.clone(), usual, just, none, Needs(text, peak, needs));
+        for (name, number, size, needed) in smaller {
+            let less = with(&just, *number as usize - 13, *size);
+            add(name, file.clone(), usual, less, none, Refused(*number, *needed, None));
+        }
     }
     list
 }

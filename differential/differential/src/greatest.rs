@@ -8,7 +8,7 @@ use generate::Rng;
 
 use crate::compare::{number, Tally, LIMITS, PROBE};
 use crate::fixed::{self, Build};
-use crate::ours::library::{counts, lengths, span};
+use crate::ours::library::{counts, lengths, span, told};
 
 extern "C" {
     fn mmap(at: *mut c_void, length: usize, protection: i32, flags: i32, file: i32, offset: i64) -> *mut c_void;
@@ -87,21 +87,11 @@ impl Lent {
         let [nodes, edges, choices, texts, bytes, tasks, results, pending, index, entries, kept, frontier, plans, visit, depth, output, spans] =
             lengths;
         let Settings { width, newline_cost, policy, rule } = *settings;
-        let most = u32::MAX;
-        gannozhi::render_lent(
+        let mut words = [u64::MAX; 26];
+        let number = gannozhi::render_words(
             file,
             &gannozhi::Settings { width, newline_cost, policy, rule },
-            &gannozhi::Sizes {
-                stack: most,
-                memo: most,
-                kept: most,
-                frontier: most,
-                plans: most,
-                visit: most,
-                depth: most,
-                output: most,
-                spans: most,
-            },
+            &gannozhi::Sizes::of(Sizes::MOST.list()),
             &gannozhi::Limits { work: limits.work, visits: limits.visits },
             TableMemory {
                 nodes: &mut self.nodes[..nodes],
@@ -124,7 +114,9 @@ impl Lent {
             },
             &mut self.output[..output],
             &mut self.spans[..spans],
-        )
+            &mut words,
+        );
+        told(number, &words)
     }
 
     /// The whole answer; a refusal must leave output and spans as they were, of which the front is looked at.
@@ -137,6 +129,7 @@ impl Lent {
                 overflow: page.overflow,
                 burden: page.burden,
                 counts: counts(&page.counts),
+                needs: Sizes::of(page.needs.list()),
             }),
             Err(refusal) => {
                 assert!(before.0 == self.output[..FRONT] && before.1 == self.spans[..FRONT], "altered on a refusal");
@@ -214,9 +207,10 @@ pub fn run(seed: u64, cases: u64, whole_page: bool) -> i32 {
         tried.hold(&format!("an indent of {indent}"), got, &want);
     }
     if whole_page {
-        let got = tried.lent.render(lengths, &indented(u32::MAX - 1, ""), &settings, &LIMITS).map(|page| page.length);
+        let got = tried.lent.render(lengths, &indented(u32::MAX - 1, ""), &settings, &LIMITS);
+        let got = got.map(|page| (page.length, page.needs.output));
         let [line, spaces @ ..] = &*tried.lent.output else { unreachable!() };
-        let right = got == Ok(u32::MAX as usize) && *line == 10 && spaces.iter().all(|byte| *byte == 32);
+        let right = got == Ok((u32::MAX as usize, u32::MAX)) && *line == 10 && spaces.iter().all(|byte| *byte == 32);
         tried.tally[0] += 1;
         tried.tally[2] += u64::from(!right);
     }

@@ -18,6 +18,7 @@ mod exhaustive;
 mod fixed;
 #[cfg(feature = "ours")]
 mod greatest;
+mod needs;
 mod ours;
 mod pairs;
 mod sample;
@@ -176,6 +177,10 @@ fn report(comparer: &Comparer, seed: u64, start: Instant) {
         tally.limit_checks
     );
     println!(
+        "needs: pages {}, by the reference {}; calls with one size smaller {}, by the reference {}",
+        tally.needs[0], tally.needs[1], tally.smaller[0], tally.smaller[1]
+    );
+    println!(
         "texts {}, with bytes above 127: well formed {}, ill {}; files with a text damaged {}",
         tally.texts, tally.wide_texts[0], tally.wide_texts[1], tally.ill
     );
@@ -204,6 +209,9 @@ fn fixed_cases(comparer: &mut Comparer) {
                     && page.burden == *burden
                     && work.is_none_or(|work| work == page.counts.work)
             }
+            (Ok(page), fixed::Want::Needs(bytes, peak, needs)) => {
+                page.bytes == bytes.as_bytes() && page.counts.peak_frontier == *peak && page.needs.list() == *needs
+            }
             (Err(refusal), fixed::Want::Refused(number, needed, work)) => {
                 refusal.number == *number
                     && refusal.needed == *needed
@@ -213,6 +221,9 @@ fn fixed_cases(comparer: &mut Comparer) {
         };
         if !met {
             comparer.difference(case.name, &call, &common::describe(&answer), "not as it must be");
+        }
+        if let Some(both) = tables.as_ref().zip(document.as_ref()) {
+            needs::run(comparer, &mut Rng::new(comparer.tally.cases), &call, both, &answer);
         }
         if case.sizes == Sizes::PAGE {
             comparer.page_cut_short(&call);
@@ -348,9 +359,15 @@ fn calls(comparer: &mut Comparer, rng: &mut Rng, call: &Call, tables: &Tables) {
     let exact = Sizes::of(trace.needs.map(|need| need.min(u64::from(u32::MAX)) as u32));
     if let Ok(page) = &probe {
         comparer.tally.past_64 += u64::from(page.overflow >> 64 > 0);
+        // Of a copy of the generator, so that what follows is drawn as without it.
+        let rng = &mut rng.clone();
+        needs::run(comparer, rng, call, (tables, &reference), &probe);
         if call.settings.rule == 2 {
-            let (other, _) = model::render(tables, &Settings { rule: 1, ..call.settings }, &PROBE, &LIMITS);
+            let first = Call { settings: Settings { rule: 1, ..call.settings }, ..*call };
+            let (other, _) = model::render(tables, &first.settings, &PROBE, &LIMITS);
             comparer.other_page(&probe, &other);
+            // Under rule 1 too, where the reference answers.
+            needs::run(comparer, rng, &first, (tables, &reference), &other);
         }
     }
     if number(&probe) == 12 {

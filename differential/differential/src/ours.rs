@@ -4,9 +4,9 @@ use common::{Answer, Limits, Settings, Sizes, Tables};
 use model::file::WriteRefusal;
 
 pub trait Printer {
-    /// The whole call on lent memory that holds anything at all: an implementation fills working memory, output, spans and counts with
-    /// dirt first, and panics where the call altered what it must leave alone (output and spans on a refusal, what lies past the page's
-    /// end, a slice's length).
+    /// The whole call on lent memory that holds anything at all: an implementation fills working memory, output, spans and the answer's words
+    /// with dirt first, and panics where the call altered what it must leave alone (output and spans on a refusal, what lies past the page's
+    /// end, a slice's length) or where a refusal's words tell more than the refusal.
     fn answer(&mut self, file: &[u8], settings: &Settings, sizes: &Sizes, limits: &Limits) -> Answer;
 
     /// The writer on the tables with `room` bytes lent; None where it is not linked or cannot be given these tables.
@@ -291,8 +291,8 @@ pub mod library {
             self.soil(lengths);
             let output_before = self.output.lent().to_vec();
             let spans_before = self.spans.lent().to_vec();
-            let [stack, memo, kept, frontier, plans, visit, depth, output, spans] = sizes.list();
-            let answer = gannozhi::render_lent(
+            let mut words = <[u64; 26]>::made(&mut || self.rng.word());
+            let number = gannozhi::render_words(
                 file,
                 &gannozhi::Settings {
                     width: settings.width,
@@ -300,7 +300,7 @@ pub mod library {
                     policy: settings.policy,
                     rule: settings.rule,
                 },
-                &gannozhi::Sizes { stack, memo, kept, frontier, plans, visit, depth, output, spans },
+                &gannozhi::Sizes::of(sizes.list()),
                 &gannozhi::Limits { work: limits.work, visits: limits.visits },
                 TableMemory {
                     nodes: self.nodes.lent(),
@@ -323,8 +323,10 @@ pub mod library {
                 },
                 self.output.lent(),
                 self.spans.lent(),
+                &mut words,
             );
             self.check();
+            let answer = told(number, &words);
             let (put, rows) = answer.as_ref().map_or((0, 0), |page| (page.length, page.spans));
             if self.output.lent()[put..] != output_before[put..] || self.spans.lent()[rows..] != spans_before[rows..] {
                 panic!("output or spans were altered where there is no page");
@@ -339,9 +341,20 @@ pub mod library {
                     overflow: page.overflow,
                     burden: page.burden,
                     counts: counts(&page.counts),
+                    needs: Sizes::of(page.needs.list()),
                 }),
             }
         }
+    }
+
+    /// What the words say, of which each was dirty before the call: a refusal has neither page nor cost nor needs, and a need has 32 bits.
+    pub fn told(number: u32, words: &[u64; 26]) -> Result<gannozhi::Rendered, gannozhi::Refusal> {
+        let none = words[2..7].iter().chain(&words[17..]).all(|word| *word == 0);
+        let fit = words[17..].iter().all(|need| *need <= u64::from(u32::MAX));
+        if words[0] != u64::from(number) || !fit || (number != 0 && !none) {
+            panic!("an answer's words: {words:?}, returned {number}");
+        }
+        gannozhi::told(words)
     }
 
     pub fn counts(ours: &gannozhi::Counts) -> Counts {

@@ -10,10 +10,12 @@
 //!     cost OVERFLOW BURDEN      with a page: 32 hexadecimal digits, decimal
 //!     span ANNOTATION START END PARENT     with a page, one for each, in order; PARENT is `-` for none
 //!     counts WORK FIT_CHECKS HITS MISSES GENERATED PRUNED PEAK_FRONTIER MEMO_ENTRIES PLAN_NODES VISITS
+//!     needs STACK MEMO KEPT FRONTIER PLANS VISIT DEPTH OUTPUT SPANS     with a page (the Rust does not tell them: always the model's)
 //!     (an empty line)
 //!
 //! First the fixed cases; then random ones under rule 1, taken in order from the seed's documents until each kind of answer has its share;
-//! then random ones under rule 2, from other documents. All sizes are at most those of the program `page`.
+//! then random ones under rule 2, from other documents; then, for some of all these pages, calls at exactly their needs and with one of them
+//! smaller. All sizes are at most those of the program `page`.
 
 use common::{to_hex, Answer, Limits, Settings, Sizes, Tables};
 use generate::files::Profile;
@@ -21,12 +23,13 @@ use generate::Rng;
 
 use crate::compare::{counts, number, shown, Call, Tally};
 use crate::fixed::{self, Case};
+use crate::needs::{smaller, with};
 
 /// How many of each answer: a page, then the refusals 1 to 22, 25 and 26. Rule 2 is nothing to the reader.
 const SHARE: [usize; 27] =
     [90, 3, 12, 14, 10, 6, 14, 14, 6, 8, 12, 16, 12, 14, 12, 12, 12, 12, 12, 10, 14, 10, 10, 0, 0, 10, 10];
 const SECOND_SHARE: [usize; 27] = [22, 1, 0, 0, 0, 0, 0, 0, 0, 0, 0, 1, 1, 1, 1, 1, 1, 1, 1, 1, 1, 1, 1, 0, 0, 1, 1];
-/// The last for rule 2: `test_calls` reads 262,144 bytes at most.
+/// The last for rule 2: `test_calls` reads 524,288 bytes at most.
 const LONGEST_FILE: [usize; 2] = [420, 200];
 /// It takes many Seqs to pass the width of a cost.
 const LONGEST_FILE_OF_26: [usize; 2] = [1_400, 900];
@@ -34,25 +37,71 @@ const LONGEST_PAGE: usize = 240;
 /// What makes another seed of a seed, for the documents under rule 2.
 const SECOND: u64 = 1 << 59;
 
+/// How many pages are called again at their needs, and how long their files may be: each takes some 14 calls.
+const AT_NEEDS: usize = 20;
+const LONGEST_AT_NEEDS: usize = 160;
+
 struct Sample {
     rule: u32,
     left: [usize; 27],
     name: String,
+    pages: Vec<Shown>,
+}
+
+/// A page of the sample.
+struct Shown {
+    name: String,
+    file: Vec<u8>,
+    settings: Settings,
+    sizes: Sizes,
+    limits: Limits,
+    needs: Sizes,
+    /// The kinds of the nodes that its root leads to; 12 stands for rule 2.
+    kinds: Vec<u8>,
 }
 
 pub fn print(seed: u64) {
+    let mut pages = Vec::new();
     for case in fixed::cases().iter().filter(|case| case.file.len() <= LONGEST_FILE_OF_26[0]) {
-        show(case.name, &case.file, &case.settings, &case.sizes, &case.limits);
+        pages.extend(show(case.name, &case.file, &case.settings, &case.sizes, &case.limits));
     }
-    random(Sample { rule: 1, left: SHARE, name: String::new() }, "random", seed);
-    random(Sample { rule: 2, left: SECOND_SHARE, name: String::new() }, "rule 2: random", seed ^ SECOND);
+    let mut sample = Sample { rule: 1, left: SHARE, name: String::new(), pages };
+    random(&mut sample, "random", seed);
+    let mut sample = Sample { rule: 2, left: SECOND_SHARE, ..sample };
+    random(&mut sample, "rule 2: random", seed ^ SECOND);
+    for page in chosen(sample.pages) {
+        let Shown { name, file, settings, sizes, limits, needs, .. } = page;
+        // Where the page came of just these sizes, there is one of larger sizes.
+        let (how, other) = if sizes == needs { ("larger", Sizes::PAGE) } else { ("exactly", needs) };
+        show(&format!("needs of {name}, {how}"), &file, &settings, &other, &limits);
+        for (kind, size) in smaller(&needs) {
+            let name = format!("needs of {name}, {} {size}", Sizes::NAMES[kind]);
+            show(&name, &file, &settings, &with(&needs, kind, size), &limits);
+        }
+    }
 }
 
-fn random(mut sample: Sample, name: &str, seed: u64) {
+/// The next is always the one with the most kinds, a kind counting half as much each time that it was had.
+fn chosen(mut pages: Vec<Shown>) -> Vec<Shown> {
+    pages.retain(|page| page.file.len() <= LONGEST_AT_NEEDS);
+    let mut had = [0u32; 13];
+    let mut list: Vec<Shown> = Vec::new();
+    while list.len() < AT_NEEDS && !pages.is_empty() {
+        let worth = |page: &Shown| page.kinds.iter().map(|kind| u64::MAX >> 5 >> had[usize::from(*kind)]).sum::<u64>();
+        // The first of the most.
+        let best = (0..pages.len()).rev().max_by_key(|at| worth(&pages[*at])).expect("a page");
+        let page = pages.remove(best);
+        page.kinds.iter().for_each(|kind| had[usize::from(*kind)] += 1);
+        list.push(page);
+    }
+    list
+}
+
+fn random(sample: &mut Sample, name: &str, seed: u64) {
     let mut index = 0;
     while sample.left.iter().any(|left| *left > 0) && index < 200_000 {
         sample.name = format!("{name} {index}");
-        document(&mut sample, seed, index);
+        document(sample, seed, index);
         index += 1;
     }
 }
@@ -134,7 +183,7 @@ fn take(sample: &mut Sample, rng: &mut Rng, file: &[u8], settings: &Settings, si
         return;
     }
     *left -= 1;
-    show(&sample.name, file, settings, sizes, limits);
+    sample.pages.extend(show(&sample.name, file, settings, sizes, limits));
 }
 
 fn dash(text: String) -> String {
@@ -145,7 +194,8 @@ fn dash(text: String) -> String {
     }
 }
 
-fn show(name: &str, file: &[u8], settings: &Settings, sizes: &Sizes, limits: &Limits) {
+/// Prints the call and its answer, and gives it back where it is a page.
+fn show(name: &str, file: &[u8], settings: &Settings, sizes: &Sizes, limits: &Limits) -> Option<Shown> {
     let modelled = model::answer(file, settings, sizes, limits);
     let by_rust = shown(settings, &modelled);
     let answer: Answer = if !by_rust {
@@ -175,7 +225,33 @@ fn show(name: &str, file: &[u8], settings: &Settings, sizes: &Sizes, limits: &Li
         }
         Err(refusal) => println!("refused {} {}", refusal.number, refusal.needed),
     }
-    println!("counts {}\n", words(&counts(&answer).list()));
+    println!("counts {}", words(&counts(&answer).list()));
+    let needs = answer.ok().map(|page| page.needs);
+    if let Some(needs) = needs {
+        println!("needs {}", words(&needs.list().map(u64::from)));
+    }
+    println!();
+    let (needs, sizes) = (needs?, *sizes);
+    let mut kinds = kinds(&model::file::read(file).expect("an accepted file"));
+    kinds.extend((settings.rule == 2).then_some(12));
+    let (name, file) = (name.to_string(), file.to_vec());
+    Some(Shown { name, file, settings: *settings, sizes, limits: *limits, needs, kinds })
+}
+
+/// The kinds of the nodes that the root leads to, each once.
+fn kinds(tables: &Tables) -> Vec<u8> {
+    let mut reached = vec![false; tables.nodes.len()];
+    let mut stack = vec![tables.root];
+    while let Some(node) = stack.pop() {
+        if !std::mem::replace(&mut reached[node as usize], true) {
+            stack.extend(model::file::referred(tables, node as usize));
+        }
+    }
+    let mut kinds: Vec<u8> =
+        tables.nodes.iter().zip(reached).filter(|(_, reached)| *reached).map(|(node, _)| node.kind).collect();
+    kinds.sort_unstable();
+    kinds.dedup();
+    kinds
 }
 
 /// Inputs of the program `page` and its outputs, by the model: the inputs of docs/DECISIONS.md 29, then random ones; then both for rule 2.

@@ -1,5 +1,5 @@
 //! A plain model of the whole answer, written from documents 01 and 02 and docs/DECISIONS.md: the file's reader and writer, the solver, the
-//! materializer, with every refusal, needed size and count. It shares no code with the reference and none with our library.
+//! materializer, with every refusal, needed size, count and need. It shares no code with the reference and none with our library.
 //! The solver is a recursion over nodes that carries the heights of the machine's stacks as numbers; a frontier is a plain list.
 
 pub mod file;
@@ -15,7 +15,7 @@ use common::{Answer, Limits, Refusal, Settings, Sizes, Tables};
 /// What a run met on its way.
 #[derive(Clone, Copy, Debug, Default)]
 pub struct Trace {
-    /// The greatest need of each size (in the order of 13 to 21), as far as the run came.
+    /// The greatest need of each size (in the order of 13 to 21), as far as the run came. Of a page they are its needs.
     pub needs: [u64; 9],
     /// What passed its width, where the answer is 11, 25 or 26.
     pub reason: Option<Reason>,
@@ -79,5 +79,10 @@ impl Run<'_> {
             return self.stop(number, needed);
         }
         Ok(())
+    }
+
+    /// The greatest needs, where none was refused: so none is above its size.
+    fn met(&self) -> Sizes {
+        Sizes::of(self.trace.needs.map(|need| u32::try_from(need).expect("no need is above its size")))
     }
 }

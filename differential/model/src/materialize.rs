@@ -36,7 +36,8 @@ pub fn materialize(run: &mut Run<'_>, solved: Solved) -> Answer {
         }
     }
     let (overflow, burden) = (solved.cost.overflow, solved.cost.burden);
-    Ok(Page { bytes: walk.bytes, spans: walk.spans, overflow, burden, counts: walk.run.counts })
+    let (counts, needs) = (walk.run.counts, walk.run.met());
+    Ok(Page { bytes: walk.bytes, spans: walk.spans, overflow, burden, counts, needs })
 }
 
 impl Walk<'_, '_> {

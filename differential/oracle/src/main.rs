@@ -104,7 +104,7 @@ fn run() -> i32 {
     let file = input(raw);
     let modelled = model::answer(&file, &settings, &given, &limits);
     if let Ok(tables) = model::file::read(&file) {
-        if !matches!(&modelled, Err(refusal) if refusal.number == 1) {
+        if matches!(&modelled, Err(refusal) if refusal.number != 1) {
             let (_, trace) = model::render(&tables, &settings, &given, &limits);
             let needs: Vec<String> =
                 Sizes::NAMES.iter().zip(trace.needs).map(|(name, need)| format!("{name} {need}")).collect();
@@ -121,7 +121,7 @@ fn run() -> i32 {
             print!("{}", describe(&modelled));
         }
         Some(shown) => {
-            println!("by the Rust{}", if shown.is_err() { " (visits by the model)" } else { "" });
+            println!("by the Rust ({} by the model)", if shown.is_err() { "visits" } else { "needs" });
             print!("{}", describe(&shown));
             if shown != modelled {
                 println!("THE MODEL DIFFERS:\n{}", describe(&modelled));

@@ -186,7 +186,7 @@ fn workspace(sizes: &Sizes) -> RenderWorkspace {
 }
 
 /// `ExactSolver::solve`, then `materialize`, on a workspace of these sizes in `WorkspaceMode::Fixed`. The reference has no work and no
-/// visit limit and keeps no count of visits: `visits` is 0 in a refusal.
+/// visit limit and keeps no count of visits: `visits` is 0 in a refusal. Nor does it tell what it needed: a page's needs are 0 here.
 pub fn render(document: &Document, settings: &Settings, sizes: &Sizes) -> Answer {
     let options = options(settings);
     let mut space = workspace(sizes);
@@ -204,6 +204,7 @@ pub fn render(document: &Document, settings: &Settings, sizes: &Sizes) -> Answer
                 overflow: rendered.cost().overflow(),
                 burden: rendered.cost().burden(),
                 counts: counts(rendered.stats(), visits(&rendered)),
+                needs: Sizes::NONE,
             });
         }
         Err(error) => error,
@@ -250,9 +251,11 @@ impl Bench<'_> {
     }
 }
 
-/// Takes from the model's answer what the reference cannot show: visits at a refusal.
+/// Takes from the model's answer what the reference does not show: visits at a refusal, a page's needs.
 pub fn fill_in(shown: &mut Answer, modelled: &Answer) {
-    if let (Err(refusal), Err(other)) = (shown, modelled) {
-        refusal.counts.visits = other.counts.visits;
+    match (shown, modelled) {
+        (Err(refusal), Err(other)) => refusal.counts.visits = other.counts.visits,
+        (Ok(page), Ok(other)) => page.needs = other.needs,
+        _ => {}
     }
 }

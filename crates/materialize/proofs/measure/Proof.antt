@@ -8,17 +8,18 @@ use Rattle.materialize.specs.Texts.{InBytes}
 use Rattle.materialize.specs.Walks.{Around, pile, plan, Sound}
 use Rattle.materialize.proofs.Turns.{spent}
 use Rattle.materialize.proofs.Untested.{told-apart}
-use Rattle.materialize.proofs.Passes.{Along, none-fits, sound-begin, along-begin, along-step, along-stop, along-end, turned-went, turned-stopped, some-bytes, in-some, some-around}
+use Rattle.materialize.proofs.Passes.{Along, Reaching, none-fits, sound-begin, along-begin, along-step, along-stop, along-end, reaching-begin, reaching-step, turned-went, turned-stopped, some-bytes, in-some, some-around}
 use Rattle.materialize.proofs.measure.Statement.{statement}
 use Rattle.materialize.proofs.measure.Tie as tie
 
 abbrev Inv-loop : tie.InvT-loop
-Inv-loop capacity plans texts stack₀ number w₀ stack w =
+Inv-loop capacity plans texts stack₀ number w₀ highest₀ deepest₀ stack w highest deepest =
     (length stack ≡ length stack₀) × Sound capacity (length plans) (pile stack (w .top)) w
     × ((o : Around) (bytes : List ℕ) → InBytes texts bytes → Along capacity o plans texts bytes number (pile stack (w .top)) w)
+    × ((bytes : List ℕ) → InBytes texts bytes → Reaching plans texts bytes number (pile stack (w .top)) w highest deepest)
 
 abbrev μ-loop : tie.MeasureT-loop
-μ-loop capacity plans texts stack₀ number w₀ stack w = capacity .«visit_limit» - w .visits
+μ-loop capacity plans texts stack₀ number w₀ highest₀ deepest₀ stack w highest deepest = capacity .«visit_limit» - w .visits
 
 returns : tie.Need-returns Inv-loop μ-loop
 returns c = let a = c .before .before .before .args in λ bytes ib. none-fits (a .capacity) (plan (a .plans .now) (a .texts .now) bytes (a .root .0)) (c .if1 .taken)
@@ -35,6 +36,7 @@ loop-holds c =
       refl,
       sound-begin (a .capacity) (length (a .plans .now)) (a .visit .now) (a .root .0) v h (c .before .before .before .before .before .before .before .pre .2 .rooted),
       λ o bytes ib. along-begin (a .capacity) o (a .plans .now) (a .texts .now) bytes (a .root .0) (a .visit .now) v h,
+      λ bytes ib. reaching-begin (a .plans .now) (a .texts .now) bytes (a .root .0) (a .visit .now) h,
     )
 
 same-length : tie.Need-same-length Inv-loop μ-loop
@@ -81,29 +83,36 @@ returns-3 c =
 enum-known-s-2 : tie.Need-enum-known-s-2 Inv-loop μ-loop
 enum-known-s-2 c = search needs
 
+greater-requires : tie.Need-greater-requires Inv-loop μ-loop
+greater-requires c κs = search needs
+
+greater-requires-2 : tie.Need-greater-requires-2 Inv-loop μ-loop
+greater-requires-2 c κs = search needs
+
 loop-less : tie.Need-loop-less Inv-loop μ-loop
 loop-less c =
-    let a = c .before .before .before .before .before .before .before .before .before .before .before .before .before .before .before .before .before .before .before .before .args in
+    let a = c .before .before .before .before .before .before .before .before .before .before .before .before .before .before .before .before .before .before .before .before .before .before .args in
     let P = a .plans .now in
     let X = a .texts .now in
-    let l = c .before .before .before .before .before .before .before .before .before .before .before .before .loop in
-    let r = c .before .before .before .before .before .visit-item .result in
-    let x = c .before .before .before .before .before .visit-item .last .1 .1 .1 .1 .1 .0 in
-    let g = turned-went (a .capacity) some-around P X (some-bytes X) (l .visit) x (l .w) _ _ r (c .before .before .before .before .before .visit-item .ensures some-around (some-bytes X) (in-some X)) (c .before .s2 .given .1) in
+    let l = c .before .before .before .before .before .before .before .before .before .before .before .before .before .before .loop in
+    let r = c .before .before .before .before .before .before .before .visit-item .result in
+    let x = c .before .before .before .before .before .before .before .visit-item .last .1 .1 .1 .1 .1 .0 in
+    let g = turned-went (a .capacity) some-around P X (some-bytes X) (l .visit) x (l .w) _ _ r (c .before .before .before .before .before .before .before .visit-item .ensures some-around (some-bytes X) (in-some X)) (c .before .before .before .s2 .given .1) in
     omega (arith, g .moved .counted, g .sound .visits-le)
 
 loop-again : tie.Need-loop-again Inv-loop μ-loop
 loop-again c =
-    let a = c .before .before .before .before .before .before .before .before .before .before .before .before .before .before .before .before .before .before .before .before .args in
+    let a = c .before .before .before .before .before .before .before .before .before .before .before .before .before .before .before .before .before .before .before .before .before .before .args in
     let P = a .plans .now in
     let X = a .texts .now in
-    let l = c .before .before .before .before .before .before .before .before .before .before .before .before .loop in
-    let r = c .before .before .before .before .before .visit-item .result in
-    let x = c .before .before .before .before .before .visit-item .last .1 .1 .1 .1 .1 .0 in
-    let g = turned-went (a .capacity) some-around P X (some-bytes X) (l .visit) x (l .w) _ _ r (c .before .before .before .before .before .visit-item .ensures some-around (some-bytes X) (in-some X)) (c .before .s2 .given .1) in (
-      omega (arith, l .inv .0, c .before .before .before .before .before .visit-item .kept),
+    let l = c .before .before .before .before .before .before .before .before .before .before .before .before .before .before .loop in
+    let r = c .before .before .before .before .before .before .before .visit-item .result in
+    let x = c .before .before .before .before .before .before .before .visit-item .last .1 .1 .1 .1 .1 .0 in
+    let g = turned-went (a .capacity) some-around P X (some-bytes X) (l .visit) x (l .w) _ _ r (c .before .before .before .before .before .before .before .visit-item .ensures some-around (some-bytes X) (in-some X)) (c .before .before .before .s2 .given .1) in (
+      omega (arith, l .inv .0, c .before .before .before .before .before .before .before .visit-item .kept),
       g .sound,
-      λ o bytes ib. along-step (l .inv .2 o bytes ib) (turned-went (a .capacity) o P X bytes (l .visit) x (l .w) _ _ r (c .before .before .before .before .before .visit-item .ensures o bytes ib) (c .before .s2 .given .1)),
+      λ o bytes ib. along-step (l .inv .2 o bytes ib) (turned-went (a .capacity) o P X bytes (l .visit) x (l .w) _ _ r (c .before .before .before .before .before .before .before .visit-item .ensures o bytes ib) (c .before .before .before .s2 .given .1)),
+      λ bytes ib. reaching-step (l .inv .3 bytes ib) (turned-went (a .capacity) some-around P X bytes (l .visit) x (l .w) _ _ r (c .before .before .before .before .before .before .before .visit-item .ensures some-around bytes ib) (c .before .before .before .s2 .given .1)) (c .before .greater .ensures) (c .greater2 .ensures),
     )
 
 same-length-3 : tie.Need-same-length-3 Inv-loop μ-loop
@@ -113,7 +122,7 @@ returns-4 : tie.Need-returns-4 Inv-loop μ-loop
 returns-4 c =
     let a = c .before .before .before .before .before .before .before .before .before .before .args in
     let l = c .before .before .loop in
-    λ bytes ib. along-end (a .capacity) (a .plans .now) (a .texts .now) bytes (a .root .0) (l .visit) (l .w) (λ o. l .inv .2 o bytes ib) (omega (arith, c .if2 .left))
+    λ bytes ib. along-end (a .capacity) (a .plans .now) (a .texts .now) bytes (a .root .0) (l .visit) (l .w) (l .highest) (l .deepest) (λ o. l .inv .2 o bytes ib) (l .inv .3 bytes ib) (omega (arith, c .if2 .left))
 
 pub measure-spec : {M : Type 1} → statement M
 measure-spec =
@@ -131,6 +140,8 @@ measure-spec =
     same-length-2
     returns-3
     enum-known-s-2
+    greater-requires
+    greater-requires-2
     loop-less
     loop-again
     same-length-3

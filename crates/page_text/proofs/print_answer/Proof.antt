@@ -16,10 +16,10 @@ enum-known-r-2 : tie.Need-enum-known-r-2
 enum-known-r-2 c = search needs
 
 slice-aggregate-page-text : tie.Need-slice-aggregate-page-text
-slice-aggregate-page-text c = sym (length-take-le (c .before .before .before .r2 .given .0 .1 .0) (now (c .before .before .before .before .before .before .before .args .output)) (fitting-page _ _ _ _ (c .before .before .before .r2 .given .1) (c .before .before .before .before .before .before .before .pre)))
+slice-aggregate-page-text c = sym (length-take-le (c .before .before .before .r2 .given .0 .1 .0) (now (c .before .before .before .before .before .before .before .args .output)) (fitting-page _ _ _ _ _ (c .before .before .before .r2 .given .1) (c .before .before .before .before .before .before .before .pre)))
 
 page-text-requires : tie.Need-page-text-requires
-page-text-requires c κs = fitting-room _ _ _ _ (c .before .before .before .r2 .given .1) (c .before .before .before .before .before .before .before .pre)
+page-text-requires c κs = fitting-room _ _ _ _ _ (c .before .before .before .r2 .given .1) (c .before .before .before .before .before .before .before .pre)
 
 same-length : tie.Need-same-length
 same-length c = search needs
@@ -31,7 +31,7 @@ same-length-2 : tie.Need-same-length-2
 same-length-2 c = search needs
 
 returns-2 : tie.Need-returns-2
-returns-2 c = told-page _ _ _ _ (c .before .before .before .before .before .before .r2 .given .1) (c .before .before .page-text .ensures)
+returns-2 c = told-page _ _ _ _ _ (c .before .before .before .before .before .before .r2 .given .1) (c .before .before .page-text .ensures)
 
 pub print-answer-spec : {M : Type 1} → statement M
 print-answer-spec =

@@ -10,7 +10,7 @@ enum-known-a-2 : tie.Need-enum-known-a-2
 enum-known-a-2 c = search needs
 
 returns : tie.Need-returns
-returns c = page-outcome (c .before .before .a .given .1)
+returns c = page-outcome (c .before .before .before .a .given .1)
 
 returns-2 : tie.Need-returns-2
 returns-2 c = refused-outcome (c .before .a2 .given .1)

@@ -33,11 +33,14 @@ least-candidate-requires c κs = ((popped-len (regs (c .before .before .before .
 stats-of-requires : tie.Need-stats-of-requires
 stats-of-requires c κs = search needs
 
+needs-of-requires : tie.Need-needs-of-requires
+needs-of-requires c κs = search needs
+
 same-length : tie.Need-same-length
-same-length c = c .before .before .before .before .before .before .before .before .before .before .g .given
+same-length c = c .before .before .before .before .before .before .before .before .before .before .before .before .g .given
 
 returns : tie.Need-returns
-returns c = (λ b R P ts ps es fs ns. best-is b R P (regs (c .before .before .before .before .before .before .before .before .before .before .before .before .before .before .args .g .now)) (regs (c .before .before .before .before .before .before .before .before .before .before .before .pop-exact-result .last .0)) ts (c .before .before .before .before .before .before .before .before .before .before .before .before .before .before .args .results .now) ps es (c .before .before .before .before .before .before .before .before .before .before .before .before .before .before .args .kept .now) fs ns (c .before .before .before .before .least-candidate .result) (c .before .before .before .before .before .before .before .before .before .before .before .pop-exact-result .ensures .0 ts ps es (c .before .before .before .before .before .before .before .before .before .before .before .before .before .before .args .kept .now) fs ns) (c .before .before .before .before .before .before .before .before .before .before .before .pop-exact-result .ensures .1) (popped-len (regs (c .before .before .before .before .before .before .before .before .before .before .before .before .before .before .args .g .now)) (regs (c .before .before .before .before .before .before .before .before .before .before .before .pop-exact-result .last .0)) (c .before .before .before .before .before .before .before .before .before .before .before .before .before .before .args .results .now) (c .before .before .before .before .before .before .before .before .before .before .before .before .before .before .args .kept .now) (c .before .before .before .before .before .before .before .before .before .before .before .before .before .before .pre .1) (c .before .before .before .before .before .before .before .before .before .before .before .pop-exact-result .ensures .0 [] [] [] (c .before .before .before .before .before .before .before .before .before .before .before .before .before .before .args .kept .now) [] [])) (c .before .before .before .before .least-candidate .ensures) _ (c .before .before .stats-of .ensures), c .before .before .before .before .before .before .before .before .before .before .before .pop-exact-result .ensures .1 .plans)
+returns c = (λ b R P ts ps es fs ns. best-is b R P (regs (c .before .before .before .before .before .before .before .before .before .before .before .before .before .before .before .before .args .g .now)) (regs (c .before .before .before .before .before .before .before .before .before .before .before .before .before .pop-exact-result .last .0)) ts (c .before .before .before .before .before .before .before .before .before .before .before .before .before .before .before .before .args .results .now) ps es (c .before .before .before .before .before .before .before .before .before .before .before .before .before .before .before .before .args .kept .now) fs ns (c .before .before .before .before .before .before .least-candidate .result) (c .before .before .before .before .before .before .before .before .before .before .before .before .before .pop-exact-result .ensures .0 ts ps es (c .before .before .before .before .before .before .before .before .before .before .before .before .before .before .before .before .args .kept .now) fs ns) (c .before .before .before .before .before .before .before .before .before .before .before .before .before .pop-exact-result .ensures .1) (popped-len (regs (c .before .before .before .before .before .before .before .before .before .before .before .before .before .before .before .before .args .g .now)) (regs (c .before .before .before .before .before .before .before .before .before .before .before .before .before .pop-exact-result .last .0)) (c .before .before .before .before .before .before .before .before .before .before .before .before .before .before .before .before .args .results .now) (c .before .before .before .before .before .before .before .before .before .before .before .before .before .before .before .before .args .kept .now) (c .before .before .before .before .before .before .before .before .before .before .before .before .before .before .before .before .pre .1) (c .before .before .before .before .before .before .before .before .before .before .before .before .before .pop-exact-result .ensures .0 [] [] [] (c .before .before .before .before .before .before .before .before .before .before .before .before .before .before .before .before .args .kept .now) [] [])) (c .before .before .before .before .before .before .least-candidate .ensures) _ (c .before .before .before .before .stats-of .ensures) _ (c .before .before .needs-of .ensures) (c .before .before .before .before .before .before .before .before .before .before .before .before .before .before .before .before .pre .1 .needs-fit), c .before .before .before .before .before .before .before .before .before .before .before .before .before .pop-exact-result .ensures .1 .plans)
 
 pub take-best-spec : {M : Type 1} → statement M
 take-best-spec =
@@ -52,5 +55,6 @@ take-best-spec =
     slice-read-plans
     least-candidate-requires
     stats-of-requires
+    needs-of-requires
     same-length
     returns)

@@ -6,7 +6,12 @@ use Rattle.solve_workspace.specs.Stores.{halted-memory}
 use borrow.Author.Needs.{needs}
 use Rattle.solve_workspace.proofs.memo_insert.Statement.{statement}
 use Rattle.solve_workspace.proofs.memo_insert.Tie as tie
+use Rattle.solve_workspace.proofs.memo_insert.Reads as reads
+use Rattle.solve_workspace.proofs.memo_insert.Lts as lts
+use Rattle.memo.proofs.memo_insert.Reads as memo-insert-reads
+use Rattle.solve_workspace.proofs.greater.Reads as greater-reads
 
+-- src/lib.rt:505:17
 slice-read-count : tie.Need-slice-read-count
 slice-read-count c = search needs
 
@@ -22,11 +27,26 @@ enum-known-needed c = search needs
 enum-known-n : tie.Need-enum-known-n
 enum-known-n c = search needs
 
+slice-read-greater : tie.Need-slice-read-greater
+slice-read-greater c = search needs
+
+-- src/lib.rt:517:46
+add-greater : tie.Need-add-greater
+add-greater c = search needs
+
+-- src/lib.rt:517:17
+greater-requires : tie.Need-greater-requires
+greater-requires c κs = search needs
+
+-- src/lib.rt:518:13
 slice-write-g : tie.Need-slice-write-g
 slice-write-g c = search needs
 
 slice-write-g-2 : tie.Need-slice-write-g-2
 slice-write-g-2 c = simp length-set (omega arith)
+
+slice-write-g-3 : tie.Need-slice-write-g-3
+slice-write-g-3 c = simp length-set (omega arith)
 
 same-length : tie.Need-same-length
 same-length c = search needs
@@ -48,8 +68,8 @@ same-length-5 c = search needs
 
 returns-2 : tie.Need-returns-2
 returns-2 c =
-    let k = entered-by (c .before .before .before .before .before .before .memo-insert .ensures) (c .before .n .given .1) in
-    (insert-on _ (c .before .before .before .before .before .before .before .before .before .before .before .before .before .args .g .now) _ _ _ _ _ _ _ _ (c .before .before .before .before .before .before .before .before .before .before .before .before .before .pre .1) k, memory-grown _ (c .before .before .before .before .before .before .before .before .before .before .before .before .before .args .g .now) _ _ _ _ _ _ _ _ (c .before .before .before .before .before .before .before .before .before .before .before .before .before .pre .1) (c .before .before .before .before .before .before .before .before .before .before .before .before .before .pre .0) k (omega arith) (omega arith) (search needs) (search needs))
+    let k = entered-by (c .before .before .before .before .before .before .before .before .memo-insert .ensures) (c .before .before .before .n .given .1) in
+    (insert-on _ (c .before .before .before .before .before .before .before .before .before .before .before .before .before .before .before .args .g .now) _ _ _ _ _ _ _ _ _ (c .before .before .before .before .before .before .before .before .before .before .before .before .before .before .before .pre .1) (c .greater .ensures) k, memory-grown _ (c .before .before .before .before .before .before .before .before .before .before .before .before .before .before .before .args .g .now) _ _ _ _ _ _ _ _ _ (c .before .before .before .before .before .before .before .before .before .before .before .before .before .before .before .pre .1) (c .greater .ensures) (c .before .before .before .before .before .before .before .before .before .before .before .before .before .before .before .pre .0) k (omega arith) (omega arith) (search needs) (search needs))
 
 pub memo-insert-spec : {M : Type 1} → statement M
 memo-insert-spec =
@@ -60,8 +80,12 @@ memo-insert-spec =
     memo-insert-requires
     enum-known-needed
     enum-known-n
+    slice-read-greater
+    add-greater
+    greater-requires
     slice-write-g
     slice-write-g-2
+    slice-write-g-3
     same-length
     same-length-2
     returns

@@ -5,10 +5,19 @@ use Rattle.solve_workspace.specs.Stores.{halted-keeps}
 use borrow.Author.Needs.{needs}
 use Rattle.solve_workspace.proofs.push_child.Statement.{statement}
 use Rattle.solve_workspace.proofs.push_child.Tie as tie
+use Rattle.solve_workspace.proofs.push_child.Reads as reads
+use Rattle.solve_workspace.proofs.push_child.Lts as lts
+use Rattle.solve_workspace.proofs.greater.Reads as greater-reads
+use Rattle.solve_workspace.proofs.task_row.Reads as task-row-reads
 
+-- src/lib.rt:560:13
 slice-read-t : tie.Need-slice-read-t
 slice-read-t c = search needs
 
+slice-read-peak : tie.Need-slice-read-peak
+slice-read-peak c = search needs
+
+-- src/lib.rt:562:16
 cast-size : tie.Need-cast-size
 cast-size c = search needs
 
@@ -16,7 +25,7 @@ add-needed : tie.Need-add-needed
 add-needed c = search needs
 
 returns : tie.Need-returns
-returns c = (λ R P rs ps es ks fs ns. none-on R P _ (c .before .before .before .before .args .g .now) _ rs ps es ks fs ns _ _ _ (omega arith), halted-keeps _ _ _ (c .before .before .before .before .args .g .now))
+returns c = (λ R P rs ps es ks fs ns. none-on R P _ (c .before .before .before .before .before .args .g .now) _ rs ps es ks fs ns _ _ _ (omega arith), halted-keeps _ _ _ (c .before .before .before .before .before .args .g .now))
 
 task-row-requires : tie.Need-task-row-requires
 task-row-requires c κs = search needs
@@ -43,7 +52,7 @@ same-length-2 : tie.Need-same-length-2
 same-length-2 c = search needs
 
 returns-2 : tie.Need-returns-2
-returns-2 c = (λ R P rs ps es ks fs ns. one-on R P _ (c .before .before .before .before .before .before .args .g .now) _ rs ps es ks fs ns _ _ _ _ (c .before .before .before .before .before .before .pre .1) (c .before .task-row .ensures) (omega arith) (omega arith) (omega arith), halted-keeps _ _ _ _)
+returns-2 c = (λ R P rs ps es ks fs ns. one-on R P _ (c .before .before .before .before .before .before .before .args .g .now) _ rs ps es ks fs ns _ _ _ _ (c .before .before .before .before .before .before .before .pre .1) (c .before .task-row .ensures) (omega arith) (omega arith) (omega arith), halted-keeps _ _ _ _)
 
 task-row-requires-2 : tie.Need-task-row-requires-2
 task-row-requires-2 c κs = search needs
@@ -54,11 +63,19 @@ mul-inner c = search needs
 slice-set-from-inner : tie.Need-slice-set-from-inner
 slice-set-from-inner c = simp length-set (omega arith)
 
-add-g : tie.Need-add-g
-add-g c = search needs
+add-top : tie.Need-add-top
+add-top c = search needs
 
+-- src/lib.rt:578:9
+greater-requires : tie.Need-greater-requires
+greater-requires c κs = search needs
+
+-- src/lib.rt:579:5
 slice-write-g-2 : tie.Need-slice-write-g-2
 slice-write-g-2 c = simp length-set (omega arith)
+
+slice-write-g-3 : tie.Need-slice-write-g-3
+slice-write-g-3 c = simp length-set (omega arith)
 
 same-length-3 : tie.Need-same-length-3
 same-length-3 c = search needs
@@ -67,13 +84,14 @@ same-length-4 : tie.Need-same-length-4
 same-length-4 c = search needs
 
 returns-3 : tie.Need-returns-3
-returns-3 c = (λ R P rs ps es ks fs ns. both-on R P _ (c .before .before .before .before .before .before .before .args .g .now) _ rs ps es ks fs ns _ _ _ _ (c .before .before .before .before .before .before .before .pre .1) (c .before .before .task-row .ensures) (c .task-row2 .ensures) (omega arith) (omega arith), twice-keeps (c .before .before .before .before .before .before .before .args .g .now) (omega arith))
+returns-3 c = (λ R P rs ps es ks fs ns. both-on R P _ (c .before .before .before .before .before .before .before .before .before .args .g .now) _ rs ps es ks fs ns _ _ _ _ _ (c .before .before .before .before .before .before .before .before .before .pre .1) (c .greater .ensures) (c .before .before .before .task-row .ensures) (c .before .task-row2 .ensures) (omega arith) (omega arith), twice-keeps (c .before .before .before .before .before .before .before .before .before .args .g .now) _ (omega arith) (c .greater .ensures))
 
 pub push-child-spec : {M : Type 1} → statement M
 push-child-spec =
     tie.close
     (tie.spec
     slice-read-t
+    slice-read-peak
     cast-size
     add-needed
     returns
@@ -89,8 +107,10 @@ push-child-spec =
     task-row-requires-2
     mul-inner
     slice-set-from-inner
-    add-g
+    add-top
+    greater-requires
     slice-write-g-2
+    slice-write-g-3
     same-length-3
     same-length-4
     returns-3)

@@ -1,10 +1,15 @@
+use lib.ListN.{length-set}
 use native.Mathlib.Omega.{arith}
 use Rattle.solve_workspace.proofs.Pushing.{result-on, result-full, results-same}
 use Rattle.solve_workspace.specs.Stores.{halted-same}
 use borrow.Author.Needs.{needs}
 use Rattle.solve_workspace.proofs.push_exact_result.Statement.{statement}
 use Rattle.solve_workspace.proofs.push_exact_result.Tie as tie
+use Rattle.solve_workspace.proofs.push_exact_result.Reads as reads
+use Rattle.solve_workspace.proofs.push_exact_result.Lts as lts
+use Rattle.solve_workspace.proofs.greater.Reads as greater-reads
 
+-- src/lib.rt:390:13
 slice-read-r : tie.Need-slice-read-r
 slice-read-r c = search needs
 
@@ -15,19 +20,32 @@ add-needed : tie.Need-add-needed
 add-needed c = search needs
 
 returns : tie.Need-returns
-returns c = (λ ts ps es ks fs ns. result-full _ (c .before .before .before .args .g .now) ts _ ps es ks fs ns _ _ _ (omega arith), halted-same _ _ _ (c .before .before .before .args .g .now))
+returns c = (λ ts ps es ks fs ns. result-full _ (c .before .before .before .before .args .g .now) ts _ ps es ks fs ns _ _ _ (omega arith), halted-same _ _ _ (c .before .before .before .before .args .g .now))
 
-mul-t15 : tie.Need-mul-t15
-mul-t15 c = search needs
+mul-t17 : tie.Need-mul-t17
+mul-t17 c = search needs
 
+-- src/lib.rt:396:5
 slice-set-from-results : tie.Need-slice-set-from-results
 slice-set-from-results c = search needs
 
-add-g : tie.Need-add-g
-add-g c = search needs
+add-top : tie.Need-add-top
+add-top c = search needs
 
+-- src/lib.rt:398:24
+slice-read-greater : tie.Need-slice-read-greater
+slice-read-greater c = search needs
+
+-- src/lib.rt:398:9
+greater-requires : tie.Need-greater-requires
+greater-requires c κs = search needs
+
+-- src/lib.rt:399:5
 slice-write-g : tie.Need-slice-write-g
 slice-write-g c = search needs
+
+slice-write-g-2 : tie.Need-slice-write-g-2
+slice-write-g-2 c = simp length-set (omega arith)
 
 same-length : tie.Need-same-length
 same-length c = search needs
@@ -36,7 +54,7 @@ same-length-2 : tie.Need-same-length-2
 same-length-2 c = search needs
 
 returns-2 : tie.Need-returns-2
-returns-2 c = (λ ts ps es ks fs ns. result-on _ (c .before .before .before .args .g .now) ts _ ps es ks fs ns _ _ (c .before .before .before .pre .1) (omega arith) (omega arith), results-same (c .before .before .before .args .g .now) _ (omega arith))
+returns-2 c = (λ ts ps es ks fs ns. result-on _ (c .before .before .before .before .before .before .args .g .now) ts _ ps es ks fs ns _ _ _ (c .before .before .before .before .before .before .pre .1) (c .greater .ensures) (omega arith) (omega arith), results-same (c .before .before .before .before .before .before .args .g .now) _ (omega arith) (c .greater .ensures))
 
 pub push-exact-result-spec : {M : Type 1} → statement M
 push-exact-result-spec =
@@ -46,10 +64,13 @@ push-exact-result-spec =
     cast-size
     add-needed
     returns
-    mul-t15
+    mul-t17
     slice-set-from-results
-    add-g
+    add-top
+    slice-read-greater
+    greater-requires
     slice-write-g
+    slice-write-g-2
     same-length
     same-length-2
     returns-2)

@@ -1,10 +1,16 @@
+use lib.ListN.{length-set}
 use native.Mathlib.Omega.{arith}
 use Rattle.solve_workspace.proofs.Pushing.{task-on, task-full, tasks-keeps}
 use Rattle.solve_workspace.specs.Stores.{halted-keeps}
 use borrow.Author.Needs.{needs}
 use Rattle.solve_workspace.proofs.push_exact_task.Statement.{statement}
 use Rattle.solve_workspace.proofs.push_exact_task.Tie as tie
+use Rattle.solve_workspace.proofs.push_exact_task.Reads as reads
+use Rattle.solve_workspace.proofs.push_exact_task.Lts as lts
+use Rattle.solve_workspace.proofs.greater.Reads as greater-reads
+use Rattle.solve_workspace.proofs.task_row.Reads as task-row-reads
 
+-- src/lib.rt:364:13
 slice-read-t : tie.Need-slice-read-t
 slice-read-t c = search needs
 
@@ -26,11 +32,23 @@ mul-row c = search needs
 slice-set-from-row : tie.Need-slice-set-from-row
 slice-set-from-row c = search needs
 
-add-g : tie.Need-add-g
-add-g c = search needs
+add-top : tie.Need-add-top
+add-top c = search needs
 
+-- src/lib.rt:373:24
+slice-read-greater : tie.Need-slice-read-greater
+slice-read-greater c = search needs
+
+-- src/lib.rt:373:9
+greater-requires : tie.Need-greater-requires
+greater-requires c κs = search needs
+
+-- src/lib.rt:374:5
 slice-write-g : tie.Need-slice-write-g
 slice-write-g c = search needs
+
+slice-write-g-2 : tie.Need-slice-write-g-2
+slice-write-g-2 c = simp length-set (omega arith)
 
 same-length : tie.Need-same-length
 same-length c = search needs
@@ -39,7 +57,7 @@ same-length-2 : tie.Need-same-length-2
 same-length-2 c = search needs
 
 returns-2 : tie.Need-returns-2
-returns-2 c = (λ rs ps es ks fs ns. task-on _ (c .before .before .before .before .before .args .g .now) _ rs ps es ks fs ns _ _ (c .before .before .before .before .before .pre .1) (c .task-row .ensures) (omega arith) (omega arith), tasks-keeps (c .before .before .before .before .before .args .g .now) _ (omega arith))
+returns-2 c = (λ rs ps es ks fs ns. task-on _ (c .before .before .before .before .before .before .before .args .g .now) _ rs ps es ks fs ns _ _ _ (c .before .before .before .before .before .before .before .pre .1) (c .greater .ensures) (c .before .before .task-row .ensures) (omega arith) (omega arith), tasks-keeps (c .before .before .before .before .before .before .before .args .g .now) _ (omega arith) (c .greater .ensures))
 
 pub push-exact-task-spec : {M : Type 1} → statement M
 push-exact-task-spec =
@@ -52,8 +70,11 @@ push-exact-task-spec =
     task-row-requires
     mul-row
     slice-set-from-row
-    add-g
+    add-top
+    slice-read-greater
+    greater-requires
     slice-write-g
+    slice-write-g-2
     same-length
     same-length-2
     returns-2)
