@@ -13,6 +13,7 @@ use Rattle.machine.specs.Balance.{Balanced, counts-in, balanced-answer}
 use Rattle.machine.specs.Larger.{Larger, larger-answer}
 use Rattle.machine.specs.Just.{just, Smaller, RefusedBy, within-answer, just-answer, less-answer}
 use Rattle.machine_right.specs.Pruned.{Fair, fair-answer}
+use Rattle.machine_right.specs.FirstLeaf.{Used, used}
 use Rattle.machine_right.specs.Right.{RightPage, Right, answer-right}
 use Rattle.machine_right.specs.Right.{right-page as found-page, right-refusal as found-refusal}
 use Rattle.file_form.specs.Form.{countsOf}
@@ -92,6 +93,10 @@ module _ {lent : Type 0} {file : List ℕ} {c : Settings} {b : Bounds} {r : Rend
   -- what is needed was lent
   pub needs-within : Answers lent file c b (paged r k) → (x : Kind) → need-of (k .needs) x ≤ size b x
   needs-within p = let h = laid-page p refl in within-answer (rules-of c) (document-of file) b r k (h .is)
+
+  -- of each kind but depth, output and spans something is needed
+  pub needs-used : Bytes file → Answers lent file c b (paged r k) → Used (k .needs)
+  needs-used z p = let h = laid-page p refl in used (rules-of c) (document-of file) (means-ready file z (h .means)) b r k (h .is)
 
   module _ {other : Type 0} (w : other) (p : Answers lent file c b (paged r k)) where
     -- the same page, the same counts and needs, and no other answer

@@ -7,7 +7,7 @@ use Prim.Native.Nat.{ℕ, _+_, _≤_, _<_, _^_, max}
 use native.Mathlib.Omega.{arith}
 use borrow.Author.Tests.{le-leb, lt-ltb, leb-true, ltb-true, eq-eqb, eqb-true}
 use lib.Dec.{eqb}
-use Rattle.machine.specs.Events.{Bounds, Counts, Kind, stack, memo, kept, frontier, plans, visit, depth, output, spans, size, bits, passes, counted, Prog, ret, emit, done, run}
+use Rattle.machine.specs.Events.{Bounds, Counts, Kind, stack, memo, kept, frontier, plans, visit, depth, output, spans, size, bits, passes, counted, Prog, ret, emit, _>>=_, done, run}
 use Rattle.machine.specs.Events.{Event, Need, Within, Hit, Miss, Generated, Visit, Pruned, Peak, Entries, PlanNodes, Never}
 use Rattle.machine.specs.Programs.{value, counts-after, Passes, run-passes, done-passes}
 
@@ -94,6 +94,23 @@ module _ {A : Type 0} where
   unfoldable pub In-domain : Prog A → Type 0
   In-domain (ret a) = Unit {0}
   In-domain (emit e p) = Fine e × In-domain p
+
+-- of two programs, one behind the other, the greater need; both in their widths
+pub peak-bind : {A B : Type 0} (x : Kind) (m : Prog A) (f : A → Prog B) → peak x (m >>= f) ≡ max (peak x m) (peak x (f (value m)))
+unfolding peak
+peak-bind x (ret a) f = omega arith
+peak-bind x (emit e p) f = omega (arith, peak-bind x p f)
+
+module _ {A B : Type 0} where
+  pub domain-first : (m : Prog A) (f : A → Prog B) → In-domain (m >>= f) → In-domain m
+  unfolding In-domain
+  domain-first (ret a) f h = tt
+  domain-first (emit e p) f h = (h .0, domain-first p f (h .1))
+
+  pub domain-then : (m : Prog A) (f : A → Prog B) → In-domain (m >>= f) → In-domain (f (value m))
+  unfolding In-domain
+  domain-then (ret a) f h = h
+  domain-then (emit e p) f h = domain-then p f (h .1)
 
 -- the bounds hold what the program asks for, from these counts on
 pub record Holds {A : Type 0} (b : Bounds) (k : Counts) (m : Prog A) : Type 0 where

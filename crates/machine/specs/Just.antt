@@ -362,13 +362,16 @@ module _ (R : Rules) (P : Prepared) (b : Bounds) (page : Rendered) (k : Counts) 
   fresh : Fresh b no-counts
   fresh = record { works-le = omega arith; visits-le = omega arith; none-yet = refl }
 
-  ended : run b no-counts (render R P) ≡ done k page
+  pub ended : run b no-counts (render R P) ≡ done k page
   unfolding answer
   ended = go (run b no-counts (render R P)) refl h
     where
       go : (o : Out Rendered) → run b no-counts (render R P) ≡ o → answer-of o ≡ paged page k → run b no-counts (render R P) ≡ done k page
       go (done j x) e q = let f : j ≡ k = cc in let g : x ≡ page = cc in e ∙ rw (f, g)
       go (stop w n j) e q = let z : _≡_ {A = ℕ} 0 1 = cc in absurd (omega arith)
+
+  pub answer-need : (x : Kind) → need-of (k .needs) x ≡ peak x (render R P)
+  answer-need = need-is b no-counts fresh (render R P) ended
 
   pub within-answer : (x : Kind) → need-of (k .needs) x ≤ size b x
   within-answer = need-within b no-counts fresh (render R P) ended

@@ -6,13 +6,11 @@ use lib.ListN.{length, length-append, length-replicate}
 use Rattle.layout.specs.Layout.{Plan, blank, put, line, join, mark, fee, page}
 use Rattle.machine.specs.Events.{Kind, stack, memo, kept, frontier, plans, visit, depth, output, spans, Prog, ret, emit, _>>_, say, Need, Visit}
 use Rattle.machine.specs.Materializer.{marks, append-each, visit-plan, materialize}
-use Rattle.machine.specs.Enough.{asks, peak}
+use Rattle.machine.specs.Enough.{asks, peak, peak-bind}
 
 -- of two programs, one behind the other, the greater need
 pub peak-then : {A B : Type 0} (x : Kind) (m : Prog A) (r : Prog B) → peak x (m >> r) ≡ max (peak x m) (peak x r)
-unfolding peak
-peak-then x (ret a) r = omega arith
-peak-then x (emit e p) r = omega (arith, peak-then x p r)
+peak-then x m r = peak-bind x m (λ a. r)
 
 -- a kind of which bytes need nothing
 pub each-none : (x : Kind) → ((n : ℕ) → asks x (Need output n) ≡ 0) → (at n : ℕ) → peak x (append-each at n) ≡ 0

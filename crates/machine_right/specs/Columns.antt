@@ -20,7 +20,6 @@ use Rattle.layout.specs.Document.{Word, Doc, empty}
 use Rattle.layout.specs.Rules.{Rules}
 use Rattle.layout.specs.Layout.{Plan, blank, put, line}
 use Rattle.layout.specs.Table.{Node, Table, Empty, Break, HardLine, Text, Seq, Fill, Group, Align, Nest, Choice, Annotate, Penalty}
-use Rattle.layout.specs.References.{RightList, two, more}
 use Rattle.layout.specs.Frontier.{Cand, cand, after, marked, charged, front}
 use Rattle.machine.specs.Events.{_>>=_}
 use Rattle.machine.specs.Model.{Prepared, ExactChoice, PlanNode, PlanText, PlanConcat, PlanAnnotate, PlanPenalty, Made, Candidate, Scratch, scratch, no-candidate, part, range, within-range, memo-key}
@@ -34,11 +33,11 @@ use borrow.Author.Tests.{eqb-true}
 use lib.Dec.{eqb}
 use Rattle.layout.specs.Layout.{last}
 use Rattle.machine.specs.Solver.{step, step-on}
-use Rattle.machine_right.specs.Relations.{All2, nil, cons, all2-append, all2-imp, all2-length, Some, some-append, Ext, ext-refl, ext-trans, Reads, as-empty, as-text, as-newline, as-concat, as-penalty, laid, Waits, Holds, waits-grow, holds-grow, den-grow, Rising, rising-lower, Headed, headed, Slice, slice-grow, getD-append, some-snoc}
+use Rattle.machine_right.specs.Relations.{All2, nil, cons, all2-append, all2-imp, all2-length, Some, some-append, some-after, list-some, Ext, ext-refl, ext-trans, Reads, as-empty, as-text, as-newline, as-concat, as-penalty, laid, Waits, Holds, waits-grow, holds-grow, den-grow, Rising, rising-lower, Headed, headed, Slice, slice-grow, getD-append, some-snoc}
 use Rattle.machine_right.specs.Fronts.{Front}
 use Rattle.machine_right.specs.Ready.{Ready}
 use Rattle.machine_right.specs.Sound.{Each}
-use Rattle.machine_right.specs.Tasks.{olds, some-after}
+use Rattle.machine_right.specs.Tasks.{olds}
 use Rattle.machine_right.specs.Tasks.{annotate-like as annotated}
 use Rattle.machine_right.specs.Fitting.{Cols, Fit, each-append, Fined, ends, says, fined, task-fits, result-fits, pending-fits, add-fits, text-fits, pop-fits, Built, Ranged, built-none, present-fits, present-all-fits, finish-fits}
 
@@ -299,10 +298,6 @@ module _ (R : Rules) (M : Mild R) (P : Prepared) (K : Ready P) where
   unfolding skip-choices
   skip-fits zero h = ends h
   skip-fits (suc n) h = says (λ _. skip-fits n h)
-
-  list-some : {a b k : ℕ} {l : List ℕ} → RightList T a b k l → Some l
-  list-some two = tt
-  list-some (more m p q pre post e h) = some-after pre (p ∷ q ∷ post) tt
 
   choice-begins : (o : Option ExactChoice) (a b : ℕ) (q : MemoKey) (S : State) {cs : List ℕ} → T .node (q .node) ≡ Choice a b → P .choices (q .node) ≡ o
       → KeyFit q → LayAt S (q .column ∷ cs) → ResAt S cs → MemoAt S → Fined Fits (begin-choice R P o a b q S)

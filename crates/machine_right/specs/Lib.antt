@@ -25,3 +25,4 @@ pub mod Pruned
 pub mod Fitting
 pub mod Columns
 pub mod Domain
+pub mod FirstLeaf

@@ -12,6 +12,7 @@ use Rattle.cost.specs.Cost.{Cost, cheap, cheaper}
 use Rattle.layout.specs.Layout.{Plan, blank, put, line, join, mark, fee}
 use Rattle.layout.specs.Frontier.{Cand, covers, any, keep, cons-if, present, load, build}
 use Rattle.layout.specs.Table.{Table}
+use Rattle.layout.specs.References.{RightList, two, more}
 use Rattle.machine.specs.Model.{PlanNode, PlanEmpty, PlanText, PlanNewline, PlanConcat, PlanAnnotate, PlanPenalty, PendingPlan, Existing, Made, layout-of, layouts-after, plan-at, Ordered, Candidate, Scratch, no-candidate, part}
 use Rattle.machine.specs.Solver.{additional, plan-number, additional-plans, committed}
 
@@ -82,6 +83,15 @@ some-snoc (y ∷ ys) x = tt
 pub some-append : {A : Type 0} (xs ys : List A) → Some xs → Some (xs ++ ys)
 some-append [] ys h = absurd h
 some-append (x ∷ xs) ys h = tt
+
+pub some-after : {A : Type 0} (xs ys : List A) → Some ys → Some (xs ++ ys)
+some-after [] ys h = h
+some-after (x ∷ xs) ys h = tt
+
+-- a right choice list has an entry
+pub list-some : {T : Table} {a b k : ℕ} {l : List ℕ} → RightList T a b k l → Some l
+list-some two = tt
+list-some (more m p q pre post e h) = some-after pre (p ∷ q ∷ post) tt
 
 pub some-map : {A B : Type 0} (f : A → B) (xs : List A) → Some xs → Some (map f xs)
 some-map f [] h = absurd h

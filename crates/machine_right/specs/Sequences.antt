@@ -27,7 +27,7 @@ use Rattle.machine.specs.Model.{Task, Eval, ContinueSequence, CompleteSequenceR
 use Rattle.machine.specs.Solver.{begin-builder, finish-builder, push-joined, build-pending}
 use Rattle.machine.specs.Solver.{checked-text, newline, push-gaps, fill-boundary}
 use Rattle.machine.specs.Solver.{push-right, gap-if-fill, next-child, continue-sequence, next-left, complete-sequence-right}
-use Rattle.machine_right.specs.Relations.{All2, nil, cons, Some, some-present, some-build, some-append, some-map, Ext, ext-refl, ext-trans, Reads, as-text, as-newline, laid, Waits, Holds, holds-grow, Den, Rising, rising-lower}
+use Rattle.machine_right.specs.Relations.{All2, nil, cons, Some, some-present, some-build, some-append, some-after, some-map, Ext, ext-refl, ext-trans, Reads, as-text, as-newline, laid, Waits, Holds, holds-grow, Den, Rising, rising-lower}
 use Rattle.machine_right.specs.Post.{Post, holds-of, says, post-bind}
 use Rattle.machine_right.specs.Rules.{task-post, result-post, pop-post, present-post, present-all-post, finish-post}
 use Rattle.machine_right.specs.Fronts.{Front, is-fill, joins, gap, spacing, seqs, means}
@@ -35,7 +35,7 @@ use Rattle.machine_right.specs.Typed.{Pile, pile-grow, kids, Cont, c-con
 use Rattle.machine_right.specs.Ready.{Ready}
 use Rattle.machine_right.specs.Sound.{ContAt, ResAt, MemoAt, Leaves, Goes, res-grow, complete-good, child-good, lower}
 use Rattle.machine_right.specs.Relations.{Slice, slice-grow, Headed, headed}
-use Rattle.machine_right.specs.Tasks.{some-after, joined-post}
+use Rattle.machine_right.specs.Tasks.{joined-post}
 
 drop-all : (l : List ℕ) (x : ℕ) → length l ≤ x → drop x l ≡ []
 drop-all [] zero h = refl

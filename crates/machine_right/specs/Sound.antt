@@ -26,7 +26,7 @@ use Rattle.machine.specs.Model.{Prepared, ExactChoice, children, Candidate, Scr
 use Rattle.machine.specs.Model.{Task, Eval, CompleteAlias, CompleteUnion, CompleteChoiceSet, CompleteAnnotate, CompletePenalty, ContinueSequence, CompleteSequenceRight, State, with-tasks, with-builder, Got}
 use Rattle.machine.specs.Solver.{begin-builder, finish-builder, singleton, memo-insert, complete-node}
 use Rattle.machine.specs.Solver.{checked-text, push-child, complete-singleton, begin-empty, begin-text, begin-newline, begin-sequence, begin-union, begin-group, begin-nest, skip-choices, push-alternatives, begin-choice, begin-kind, begin-known}
-use Rattle.machine_right.specs.Relations.{All2, nil, cons, all2-imp, all2-length, Some, Ext, as-empty, as-text, as-newline, laid, Waits, Den, den-grow, Rise}
+use Rattle.machine_right.specs.Relations.{All2, nil, cons, all2-imp, all2-length, Some, list-some, Ext, as-empty, as-text, as-newline, laid, Waits, Den, den-grow, Rise}
 use Rattle.machine_right.specs.Post.{Post, holds-of, says, post-bind}
 use Rattle.machine_right.specs.Rules.{task-post, result-post, present-post, finish-post}
 use Rattle.machine_right.specs.Fronts.{Front, is-fill, seqs, means, Sequence, seq-is, fill-is}
@@ -219,14 +219,6 @@ module _ (R : Rules) (P : Prepared) (D : ℕ → Doc) (goal : Front) (K : Ready 
   list-lower r (more m p q pre post e h) ha hb =
       each-middle (λ n. rank n < r) pre m p q post
       (λ z. (omega (arith, z, lower m p (Choice p q) e (here refl)), omega (arith, z, lower m q (Choice p q) e (there (here refl))))) (list-lower r h ha hb)
-
-  list-some : {a b k : ℕ} {l : List ℕ} → RightList T′ a b k l → Some l
-  list-some two = tt
-  list-some (more m p q pre post e h) = go pre
-    where
-      go : (xs : List ℕ) → Some (xs ++ (p ∷ q ∷ post))
-      go [] = tt
-      go (x ∷ xs) = tt
 
   evals-low : (q : MemoKey) (r : ℕ) (ns : List ℕ) (t : Task) → Each (λ n. rank n < r) ns → Low r t → Each (Low r) (evals R P D goal q ns ++ (t ∷ []))
   evals-low q r [] t h l = (l, tt)

@@ -19,16 +19,12 @@ use Rattle.machine.specs.Model.{Prepared, PlanNode, PlanConcat, PlanAnnotate, P
 use Rattle.machine.specs.Model.{Task, State, with-pending, with-builder}
 use Rattle.machine.specs.Solver.{begin-builder, existing, present-range, union-ranges, present-wrapped, wrap-range, push-joined}
 use Rattle.machine.specs.Solver.{complete-alias, complete-union, present-ranges, complete-choice-set, complete-wrapped}
-use Rattle.machine_right.specs.Relations.{All2, nil, cons, all2-append, all2-length, Some, some-build, some-append, some-map, as-existing, as-concat, as-annotate, as-penalty, laid, Waits, Holds, Den, Rise}
+use Rattle.machine_right.specs.Relations.{All2, nil, cons, all2-append, all2-length, Some, some-build, some-append, some-after, some-map, as-existing, as-concat, as-annotate, as-penalty, laid, Waits, Holds, Den, Rise}
 use Rattle.machine_right.specs.Post.{Post, holds-of, post-bind}
 use Rattle.machine_right.specs.Rules.{pending-post, add-post, pop-post, present-post, present-all-post, finish-post}
 use Rattle.machine_right.specs.Fronts.{Front, means}
 use Rattle.machine_right.specs.Typed.{Pile, flatten, cont-grow, RangeDen, memo-grow}
 use Rattle.machine_right.specs.Sound.{ContAt, ResAt, MemoAt, Goes, res-grow, complete-good, finish-good}
-
-pub some-after : {A : Type 0} (F G : List A) → Some G → Some (F ++ G)
-some-after [] G h = h
-some-after (x ∷ F) G h = tt
 
 add-zero-cost : (c : Cost) → add c zero-cost ≡ c
 add-zero-cost c =

@@ -1,51 +1,37 @@
 use borrow.Author.Needs.{needs}
 use Rattle.solve.proofs.needs_of.Statement.{statement}
 use Rattle.solve.proofs.needs_of.Tie as tie
-use Rattle.solve.proofs.needs_of.Reads as reads
-use Rattle.solve.proofs.needs_of.Lts as lts
-use Rattle.solve_workspace.proofs.narrow.Reads as narrow-reads
 
--- src/lib.rt:139:40
 shared-slice-read-narrow : tie.Need-shared-slice-read-narrow
 shared-slice-read-narrow c = search needs
 
--- src/lib.rt:139:16
 narrow-requires : tie.Need-narrow-requires
 narrow-requires c κs = search needs
 
--- src/lib.rt:140:39
 shared-slice-read-narrow-2 : tie.Need-shared-slice-read-narrow-2
 shared-slice-read-narrow-2 c = search needs
 
--- src/lib.rt:140:15
 narrow-requires-2 : tie.Need-narrow-requires-2
 narrow-requires-2 c κs = search needs
 
--- src/lib.rt:141:39
 shared-slice-read-narrow-3 : tie.Need-shared-slice-read-narrow-3
 shared-slice-read-narrow-3 c = search needs
 
--- src/lib.rt:141:15
 narrow-requires-3 : tie.Need-narrow-requires-3
 narrow-requires-3 c κs = search needs
 
--- src/lib.rt:142:43
 shared-slice-read-narrow-4 : tie.Need-shared-slice-read-narrow-4
 shared-slice-read-narrow-4 c = search needs
 
--- src/lib.rt:142:19
 narrow-requires-4 : tie.Need-narrow-requires-4
 narrow-requires-4 c κs = search needs
 
--- src/lib.rt:143:40
 shared-slice-read-narrow-5 : tie.Need-shared-slice-read-narrow-5
 shared-slice-read-narrow-5 c = search needs
 
--- src/lib.rt:143:16
 narrow-requires-5 : tie.Need-narrow-requires-5
 narrow-requires-5 c κs = search needs
 
--- src/lib.rt:134:1
 returns : tie.Need-returns
 returns c = rw (c .before .before .before .before .before .before .before .before .narrow .ensures, c .before .before .before .before .before .before .narrow2 .ensures, c .before .before .before .before .narrow3 .ensures, c .before .before .narrow4 .ensures, c .narrow5 .ensures)
 

@@ -1,3 +1,4 @@
+-- `solve_builder::present` meets its contract.
 use mathlib.Core.Path.{_∙_}
 use native.Mathlib.Omega.{arith}
 use lib.ListN.{set, length-set}
@@ -9,15 +10,7 @@ use Rattle.solve_builder.proofs.Offering.{spent, frontier-on, fits, sto
 use borrow.Author.Needs.{needs}
 use Rattle.solve_builder.proofs.present.Statement.{statement}
 use Rattle.solve_builder.proofs.present.Tie as tie
-use Rattle.solve_builder.proofs.present.Reads as reads
-use Rattle.solve_builder.proofs.present.Lts as lts
-use Rattle.frontier.proofs.present.Reads as present-reads
-use Rattle.solve_builder.proofs.builder_of.Reads as builder-of-reads
-use Rattle.solve_builder.proofs.count_candidate.Reads as count-candidate-reads
-use Rattle.solve_builder.proofs.store_builder.Reads as store-builder-reads
-use Rattle.solve_workspace.proofs.greater.Reads as greater-reads
 
--- src/lib.rt:105:16
 slice-read-work : tie.Need-slice-read-work
 slice-read-work c = search needs
 
@@ -54,7 +47,6 @@ slice-read-greater c = omega (arith, c .before .before .before .before .before .
 greater-requires : tie.Need-greater-requires
 greater-requires c κs = search needs
 
--- src/lib.rt:127:25
 add-g : tie.Need-add-g
 add-g c =
     let k = after-by (record { by = c .before .before .before .before .before .before .before .before .present .ensures }) (c .before .before .before .before .after .given .1) in

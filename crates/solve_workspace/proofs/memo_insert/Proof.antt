@@ -6,12 +6,7 @@ use Rattle.solve_workspace.specs.Stores.{halted-memory}
 use borrow.Author.Needs.{needs}
 use Rattle.solve_workspace.proofs.memo_insert.Statement.{statement}
 use Rattle.solve_workspace.proofs.memo_insert.Tie as tie
-use Rattle.solve_workspace.proofs.memo_insert.Reads as reads
-use Rattle.solve_workspace.proofs.memo_insert.Lts as lts
-use Rattle.memo.proofs.memo_insert.Reads as memo-insert-reads
-use Rattle.solve_workspace.proofs.greater.Reads as greater-reads
 
--- src/lib.rt:505:17
 slice-read-count : tie.Need-slice-read-count
 slice-read-count c = search needs
 
@@ -30,15 +25,12 @@ enum-known-n c = search needs
 slice-read-greater : tie.Need-slice-read-greater
 slice-read-greater c = search needs
 
--- src/lib.rt:517:46
 add-greater : tie.Need-add-greater
 add-greater c = search needs
 
--- src/lib.rt:517:17
 greater-requires : tie.Need-greater-requires
 greater-requires c κs = search needs
 
--- src/lib.rt:518:13
 slice-write-g : tie.Need-slice-write-g
 slice-write-g c = search needs
 

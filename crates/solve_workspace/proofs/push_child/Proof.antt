@@ -5,19 +5,13 @@ use Rattle.solve_workspace.specs.Stores.{halted-keeps}
 use borrow.Author.Needs.{needs}
 use Rattle.solve_workspace.proofs.push_child.Statement.{statement}
 use Rattle.solve_workspace.proofs.push_child.Tie as tie
-use Rattle.solve_workspace.proofs.push_child.Reads as reads
-use Rattle.solve_workspace.proofs.push_child.Lts as lts
-use Rattle.solve_workspace.proofs.greater.Reads as greater-reads
-use Rattle.solve_workspace.proofs.task_row.Reads as task-row-reads
 
--- src/lib.rt:560:13
 slice-read-t : tie.Need-slice-read-t
 slice-read-t c = search needs
 
 slice-read-peak : tie.Need-slice-read-peak
 slice-read-peak c = search needs
 
--- src/lib.rt:562:16
 cast-size : tie.Need-cast-size
 cast-size c = search needs
 
@@ -66,11 +60,9 @@ slice-set-from-inner c = simp length-set (omega arith)
 add-top : tie.Need-add-top
 add-top c = search needs
 
--- src/lib.rt:578:9
 greater-requires : tie.Need-greater-requires
 greater-requires c κs = search needs
 
--- src/lib.rt:579:5
 slice-write-g-2 : tie.Need-slice-write-g-2
 slice-write-g-2 c = simp length-set (omega arith)
 

@@ -5,11 +5,7 @@ use Rattle.solve_workspace.specs.Stores.{halted-same}
 use borrow.Author.Needs.{needs}
 use Rattle.solve_workspace.proofs.push_exact_result.Statement.{statement}
 use Rattle.solve_workspace.proofs.push_exact_result.Tie as tie
-use Rattle.solve_workspace.proofs.push_exact_result.Reads as reads
-use Rattle.solve_workspace.proofs.push_exact_result.Lts as lts
-use Rattle.solve_workspace.proofs.greater.Reads as greater-reads
 
--- src/lib.rt:390:13
 slice-read-r : tie.Need-slice-read-r
 slice-read-r c = search needs
 
@@ -25,22 +21,18 @@ returns c = (λ ts ps es ks fs ns. result-full _ (c .before .before .before .bef
 mul-t17 : tie.Need-mul-t17
 mul-t17 c = search needs
 
--- src/lib.rt:396:5
 slice-set-from-results : tie.Need-slice-set-from-results
 slice-set-from-results c = search needs
 
 add-top : tie.Need-add-top
 add-top c = search needs
 
--- src/lib.rt:398:24
 slice-read-greater : tie.Need-slice-read-greater
 slice-read-greater c = search needs
 
--- src/lib.rt:398:9
 greater-requires : tie.Need-greater-requires
 greater-requires c κs = search needs
 
--- src/lib.rt:399:5
 slice-write-g : tie.Need-slice-write-g
 slice-write-g c = search needs
 

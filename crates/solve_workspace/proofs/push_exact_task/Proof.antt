@@ -5,12 +5,7 @@ use Rattle.solve_workspace.specs.Stores.{halted-keeps}
 use borrow.Author.Needs.{needs}
 use Rattle.solve_workspace.proofs.push_exact_task.Statement.{statement}
 use Rattle.solve_workspace.proofs.push_exact_task.Tie as tie
-use Rattle.solve_workspace.proofs.push_exact_task.Reads as reads
-use Rattle.solve_workspace.proofs.push_exact_task.Lts as lts
-use Rattle.solve_workspace.proofs.greater.Reads as greater-reads
-use Rattle.solve_workspace.proofs.task_row.Reads as task-row-reads
 
--- src/lib.rt:364:13
 slice-read-t : tie.Need-slice-read-t
 slice-read-t c = search needs
 
@@ -35,15 +30,12 @@ slice-set-from-row c = search needs
 add-top : tie.Need-add-top
 add-top c = search needs
 
--- src/lib.rt:373:24
 slice-read-greater : tie.Need-slice-read-greater
 slice-read-greater c = search needs
 
--- src/lib.rt:373:9
 greater-requires : tie.Need-greater-requires
 greater-requires c κs = search needs
 
--- src/lib.rt:374:5
 slice-write-g : tie.Need-slice-write-g
 slice-write-g c = search needs
 

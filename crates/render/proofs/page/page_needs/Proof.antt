@@ -1,27 +1,19 @@
 use borrow.Author.Needs.{needs}
 use Rattle.render.proofs.page.page_needs.Statement.{statement}
 use Rattle.render.proofs.page.page_needs.Tie as tie
-use Rattle.render.proofs.page.page_needs.Reads as reads
-use Rattle.render.proofs.page.page_needs.Lts as lts
-use Rattle.solve_workspace.proofs.narrow.Reads as narrow-reads
 
--- src/page.rt:125:16
 narrow-requires : tie.Need-narrow-requires
 narrow-requires c κs = search needs
 
--- src/page.rt:126:16
 narrow-requires-2 : tie.Need-narrow-requires-2
 narrow-requires-2 c κs = search needs
 
--- src/page.rt:127:17
 narrow-requires-3 : tie.Need-narrow-requires-3
 narrow-requires-3 c κs = search needs
 
--- src/page.rt:128:16
 narrow-requires-4 : tie.Need-narrow-requires-4
 narrow-requires-4 c κs = search needs
 
--- src/page.rt:116:1
 returns : tie.Need-returns
 returns c = rw (c .before .before .before .narrow .ensures, c .before .before .narrow2 .ensures, c .before .narrow3 .ensures, c .narrow4 .ensures)
 
