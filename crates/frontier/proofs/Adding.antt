@@ -66,7 +66,7 @@ same-more s us bs cs ds e = record {
   back = λ x i. ⊎-elim (λ (z : x ≡ s). subst (λ y. In y (us ++ s ∷ bs)) (sym z) (in-mid s us bs)) (λ h. in-more x s us bs (e .back x h)) (in-case x s cs ds i);
 }
 
-module _ {m : List ℕ} {b : Builder} {k : ℕ} (p : Admit m b k) {s free used : ℕ} (g : Taken m (p .roomy .size) (p .roomy .kept .order) s free used) where
+module _ {m : List ℕ} {b : Builder} {k : ℕ} (p : Admit m b k) {s free used : ℕ} (g : Taken m (p .roomy .size) (p .roomy .kept .order) s free used (b .used)) where
   abbrev a : Kept m b
   a = p .roomy .kept
 
@@ -127,6 +127,7 @@ module _ {m : List ℕ} {b : Builder} {k : ℕ} (p : Admit m b k) {s free used :
     out = g .out;
     order-is = refl;
     own = rw (keeps 0 (lit< tt), keeps 1 (lit< tt), keeps 2 (lit< tt), keeps 3 (lit< tt), keeps 4 (lit< tt), keeps 5 (lit< tt), keeps 6 (lit< tt), keeps 7 (lit< tt)) (f .own);
+    most = omega (arith, g .most, a .count);
     within = g .within;
     len = lens;
     rest = λ v j d w. u .frame .rest v j (omega arith) ∙ (c .frame .rest v j (omega arith) (omega arith) (omega arith) ∙ f .other v j d (omega arith));

@@ -40,7 +40,7 @@ module _ {m : List ℕ} {size : ℕ} {b : Builder} (p : Frontier m size b) (x : 
   as-told e t = subst (λ z. Effects m x (p .sound .kept .order) z) t e
 
   pub was-pruned : any (prunes m x) (p .sound .kept .order) ≡ true → After m m size b b x 1
-  was-pruned e = record { frontier = p; survivors-are = sym (rule-pruned (p .sound .kept) x e); pruned-is = omega (arith, ap (λ z. length z) (rule-pruned (p .sound .kept) x e)) }
+  was-pruned e = record { frontier = p; most = omega (arith, p .sound .kept .count, p .sound .kept .sum); survivors-are = sym (rule-pruned (p .sound .kept) x e); pruned-is = omega (arith, ap (λ z. length z) (rule-pruned (p .sound .kept) x e)) }
 
   abbrev pub fresh : any (prunes m x) (p .sound .kept .order) ≡ false → Fresh m b x
   fresh n = record { sound = p .sound; none = n }
@@ -124,6 +124,7 @@ module _ {m : List ℕ} {size : ℕ} {b : Builder} (p : Frontier m size b) (x : 
     pub joined : {k : ℕ} → k ≡ b .live - b₁ .live → After m m₂ size b b₂ x k
     joined {k} e = record {
       frontier = record { sound = record { kept = u .kept; falls = λ y v i j h. pairs y v (which y i) (which v j) h }; within = u .within; room = omega (arith, u .len, z .len, p .room); bound = p .bound };
+      most = omega (arith, u .most, z .used-is);
       survivors-are = listed;
       pruned-is = omega (arith, e, ap (λ w. length w) listed, survive-length (u .kept), survive-length (p .sound .kept), live-is, z .fewer);
     }

@@ -194,7 +194,7 @@ apart-head (y ∷ ys) z zs a = ((λ e. a .0 .0 (sym e)), apart-head ys z zs (a .
 
 module _ {m : List ℕ} {b : Builder} (p : Roomy m b) where
   -- no free slot: the first that was not used
-  pub taken-new : b .free ≡ nil → Taken m (p .size) (p .kept .order) (b .used) nil (b .used + 1)
+  pub taken-new : b .free ≡ nil → Taken m (p .size) (p .kept .order) (b .used) nil (b .used + 1) (b .used)
   taken-new e = record {
     frees = [];
     at = record { room = omega (arith, less, p .room) };
@@ -204,6 +204,7 @@ module _ {m : List ℕ} {b : Builder} (p : Roomy m b) where
     once = (tt, tt);
     apart = apart-none (p .kept .order);
     sum = omega (arith, none, p .kept .sum);
+    most = omega (arith, none, p .kept .sum);
     own = omega arith;
     low = λ x i. omega (arith, p .kept .low x i);
     low-free = λ x i. absurd i;
@@ -219,7 +220,7 @@ module _ {m : List ℕ} {b : Builder} (p : Roomy m b) where
   pub fst : b .free ≢ nil → First m (b .free) (p .kept .frees)
   fst n = first m (b .free) (p .kept .frees) n (p .kept .spare)
 
-  pub taken-free : {x : ℕ} → b .free ≢ nil → x ≡ word m (b .free) 10 → Taken m (p .size) (p .kept .order) (b .free) x (b .used)
+  pub taken-free : {x : ℕ} → b .free ≢ nil → x ≡ word m (b .free) 10 → Taken m (p .size) (p .kept .order) (b .free) x (b .used) (b .used)
   taken-free {x} n e = record {
     frees = fst n .xs;
     at = fst n .at;
@@ -229,6 +230,7 @@ module _ {m : List ℕ} {b : Builder} (p : Roomy m b) where
     once = subst (λ z. Once z) (fst n .is) (p .kept .once-free);
     apart = apart-tail (p .kept .order) (b .free) (fst n .xs) parts;
     sum = omega (arith, p .kept .sum, len);
+    most = omega (arith, p .kept .sum, len);
     own = low′ (b .free) (inl refl);
     low = p .kept .low;
     low-free = λ y i. low′ y (inr i);

@@ -3,7 +3,7 @@ use mathlib.Core.Path.{_≡_}
 use mathlib.Core.Logic.{_≢_}
 use mathlib.Core.Bool.{Bool, true, false, not, _||_}
 use mathlib.Core.List.{List, [], _∷_, _++_}
-use Prim.Native.Nat.{ℕ, suc, _+_, _*_, _≤_, _<_}
+use Prim.Native.Nat.{ℕ, suc, _+_, _*_, _≤_, _<_, max}
 use lib.ListN.{length}
 use lib.Dec.{eqb}
 use Rattle.cost.specs.Cost.{Cost, cheap}
@@ -94,8 +94,8 @@ pub record Roomy (m : List ℕ) (b : Builder) : Type 0 where
   pub room : size * 14 ≤ length m
   pub bound : size < top
 
--- slot s is taken, a free one or the first that was not used
-pub record Taken (m : List ℕ) (size : ℕ) (order : List ℕ) (s free used : ℕ) : Type 0 where
+-- slot s is taken, a free one or the first that was not used, after the first `was`
+pub record Taken (m : List ℕ) (size : ℕ) (order : List ℕ) (s free used was : ℕ) : Type 0 where
   pub frees : List ℕ
   pub at : At m s
   pub some : s < nil
@@ -104,6 +104,7 @@ pub record Taken (m : List ℕ) (size : ℕ) (order : List ℕ) (s free used : �
   pub once : Once (s ∷ frees)
   pub apart : Apart order frees
   pub sum : used ≡ suc (length order + length frees)
+  pub most : used ≡ max was (suc (length order))
   pub own : s < used
   pub low : (x : ℕ) → In x order → x < used
   pub low-free : (x : ℕ) → In x frees → x < used
@@ -128,6 +129,7 @@ pub record Admitted (m n : List ℕ) (size : ℕ) (b b′ : Builder) (x : Cand P
   pub out : Out s order
   pub order-is : kept .order ≡ order ++ s ∷ []
   pub own : candidate-at n s ≡ x
+  pub most : b′ .used ≡ max (b .used) (b′ .live)
   pub within : b′ .used ≤ size
   pub len : length n ≡ length m
   pub rest : (u j : ℕ) → u ≢ s → j < 8 → word n u j ≡ word m u j
@@ -170,8 +172,10 @@ pub record Sifted (m n : List ℕ) (b b′ : Builder) (x : Cand Pending) (order 
   pub rest : (s j : ℕ) → j < 8 → word n s j ≡ word m s j
 
 -- ---- the answer to a presented candidate
+-- no more slots are used than were ever kept at once
 pub record After (m n : List ℕ) (size : ℕ) (b b′ : Builder) (x : Cand Pending) (pruned : ℕ) : Type 0 where
   pub frontier : Frontier n size b′
+  pub most : b′ .used ≡ max (b .used) (b′ .live)
   pub survivors-are : survivors n b′ ≡ present covers (survivors m b) x
   pub pruned-is : pruned ≡ pruned-by (survivors m b) x
 

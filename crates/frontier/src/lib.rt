@@ -267,7 +267,7 @@ struct Slot {
 // The last slot that became free, or the first that was not used yet.
 fn take(frontier: &[u64], b: Builder) -> Slot
     requires { ⌜ Roomy (now frontier) b ⌝ }
-    ensures { λ r. ⌜ ((p : Roomy (now (frontier .entry)) b) → Taken (now (frontier .entry)) (p .size) (p .kept .order) (r .slot) (r .free) (r .used)) ⌝ }
+    ensures { λ r. ⌜ ((p : Roomy (now (frontier .entry)) b) → Taken (now (frontier .entry)) (p .size) (p .kept .order) (r .slot) (r .free) (r .used) (b .used)) ⌝ }
 {
     if b.free == NIL {
         let used = b.used + 1;

@@ -1,7 +1,7 @@
 -- The start of a call, whatever the working memory holds; and its end: the root's result, and the best candidate.
 use mathlib.Core.Path.{_≡_, refl, sym, ap, _∙_, subst}
 use mathlib.Core.List.{List, [], _∷_, map}
-use Prim.Native.Nat.{ℕ, zero, suc, _-_, _≤_, _<_, _^_}
+use Prim.Native.Nat.{ℕ, zero, suc, _-_, _≤_, _<_, _^_, max}
 use native.Mathlib.Omega.{arith}
 use lib.ListN.{length, getD, replicate, length-append, length-map}
 use Rattle.stats.specs.declared.SolveStats.{SolveStats}
@@ -43,7 +43,7 @@ use Rattle.solve_workspace.specs.Lent.{WORDS, regs, Held}
 use Rattle.solve_workspace.specs.Stacks.{pop-is}
 use Rattle.solve_workspace.specs.Words.{low-is}
 use Rattle.solve_builder.specs.Building.{Begun}
-use Rattle.solve_builder.specs.Opening.{begun-abs, begun-held}
+use Rattle.solve_builder.specs.Opening.{begun-abs, begun-counts, begun-held}
 use Rattle.solve.specs.declared.SolverNeeds.{SolverNeeds}
 use Rattle.solve.specs.declared.Solution.the-variants.{Found}
 use Rattle.solve.specs.Accepted.{Typed, MemoRoom, NeedsFit, Topped}
@@ -99,7 +99,7 @@ starts R P h ts rs ps es ks fs ns = ap (λ (S : State). push-exact-task (Eval (m
 
 pub from-start : {b : Bounds} {z : Registers} {p q : Prog State} {a : Reached} {f : Registers → State} → Started z → p ≡ q → Meets b (counts z) q a f → Meets b no-counts p a f
 from-start {b = b} {z = z} {q = q} {a = a} {f = f} h e m =
-    let k : counts z ≡ no-counts = ap counts (h .begun .same) in
+    let k : counts z ≡ no-counts = begun-counts (h .begun) in
     record { is = ap (run (limits b) no-counts) e ∙ subst (λ (j : Counts). run (limits b) j q ≡ out a f) k (m .is); sound = m .sound }
 
 -- a memo of no entries, in any words
@@ -209,7 +209,7 @@ plans-of s ts rs ps es ks fs ns = refl
 -- a popped result leaves the needs, which are told whole
 needs-same : (st s : Registers) → Popped st s → NeedsFit st → solver-needs (needs-low s) ≡ needs-in st
 needs-same st s p y =
-    rw (p .peaks, p .kept, p .plans, low-is (st .peaks .stack) (y .stack), low-is (st .peaks .memo) (y .memo), low-is (st .kept) (y .kept), low-is (st .peaks .frontier) (y .frontier), low-is (st .plans) (y .plans))
+    rw (p .peaks, p .builder, p .kept, p .plans, low-is (st .peaks .stack) (y .stack), low-is (st .peaks .memo) (y .memo), low-is (st .kept) (y .kept), low-is (max (st .peaks .frontier) (st .builder .used)) (y .frontier), low-is (st .plans) (y .plans))
 
 pub best-is : (b : Bounds) (R : Rules) (P : Prepared) (st s : Registers) (ts rs ps es ks : List Row) (fs : List ℕ) (ns : List Row) (best : Code)
     → pop-exact-result (abs st ts rs ps es ks fs ns) ≡ ret (got (range (s .start) (s .len)) (abs s ts rs ps es ks fs ns)) → Popped st s → 1 ≤ s .len

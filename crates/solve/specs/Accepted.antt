@@ -1,7 +1,7 @@
 -- What the solver relies on: tables of an accepted file, and a state that the machine can come to.
 use mathlib.Core.Path.{_≡_}
 use mathlib.Core.List.{List, []}
-use Prim.Native.Nat.{ℕ, suc, _≤_, _<_, _^_}
+use Prim.Native.Nat.{ℕ, suc, _≤_, _<_, _^_, max}
 use lib.ListN.{length, getD}
 use Rattle.layout.specs.Document.{Doc}
 use Rattle.layout.specs.Rules.{Rules}
@@ -37,7 +37,7 @@ pub record NeedsFit (s : Registers) : Type 0 where
   pub stack : s .peaks .stack < 2 ^ 32
   pub memo : s .peaks .memo < 2 ^ 32
   pub kept : s .kept < 2 ^ 32
-  pub frontier : s .peaks .frontier < 2 ^ 32
+  pub frontier : max (s .peaks .frontier) (s .builder .used) < 2 ^ 32
   pub plans : s .plans < 2 ^ 32
 
 -- the result on top is a range that is not empty

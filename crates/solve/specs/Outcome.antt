@@ -1,6 +1,6 @@
 -- What the answer of `solve` says, as the end of a run of the machine.
 use mathlib.Core.List.{List, [], _∷_, map}
-use Prim.Native.Nat.{ℕ, _≤_, _<_, _^_}
+use Prim.Native.Nat.{ℕ, _≤_, _<_, _^_, max}
 use lib.ListN.{length}
 use Rattle.cost.specs.Value.{value}
 use Rattle.stats.specs.declared.SolveStats.{SolveStats}
@@ -46,7 +46,7 @@ with-nodes t n = record {
 
 -- what the solver needed, in 32 bits each
 abbrev pub needs-low : Registers → SolverNeeds
-needs-low s = record { stack = low (s .peaks .stack); memo = low (s .peaks .memo); kept = low (s .kept); frontier = low (s .peaks .frontier); plans = low (s .plans) }
+needs-low s = record { stack = low (s .peaks .stack); memo = low (s .peaks .memo); kept = low (s .kept); frontier = low (max (s .peaks .frontier) (s .builder .used)); plans = low (s .plans) }
 
 -- the first least of candidates by cost and precedence
 abbrev pub least-of : List Candidate → Candidate

@@ -45,6 +45,7 @@ use solve_workspace::STACK_PEAK;
 use solve_workspace::START;
 use solve_workspace::TASKS;
 use solve_workspace::Turn;
+use solve_workspace::USED;
 use solve_workspace::WORDS;
 use solve_workspace::WORK;
 use solve_workspace::Why;
@@ -135,11 +136,12 @@ fn needs_of(g: &[u64]) -> SolverNeeds
     requires { ⌜ WORDS ≤ length (now g) ⌝ }
     ensures { λ r. ⌜ r ≡ needs-low (regs (now (g .entry))) ⌝ }
 {
+    let frontier = solve_workspace::greater(g[FRONTIER_PEAK], g[USED]);
     SolverNeeds {
         stack: solve_workspace::narrow(g[STACK_PEAK]),
         memo: solve_workspace::narrow(g[MEMO_PEAK]),
         kept: solve_workspace::narrow(g[KEPT]),
-        frontier: solve_workspace::narrow(g[FRONTIER_PEAK]),
+        frontier: solve_workspace::narrow(frontier),
         plans: solve_workspace::narrow(g[PLANS]),
     }
 }

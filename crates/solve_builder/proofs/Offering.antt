@@ -1,7 +1,7 @@
 -- A candidate presented, over the words: g at entry, g₁ with the candidate counted, g₂ with the frontier that holds it.
 use mathlib.Core.Path.{_≡_, refl, sym, ap, _∙_, subst}
 use mathlib.Core.List.{List}
-use Prim.Native.Nat.{ℕ, _+_, _≤_, _<_, _^_, max}
+use Prim.Native.Nat.{ℕ, _+_, _≤_, _<_, _^_}
 use native.Mathlib.Omega.{arith}
 use lib.ListN.{length, set}
 use Rattle.layout.specs.Frontier.{Cand}
@@ -22,7 +22,7 @@ use Rattle.solve_workspace.specs.Meets.{counts, Sound, Meets}
 use Rattle.solve_workspace.specs.Rows.{Row, at, survivor, abs}
 use Rattle.solve_workspace.specs.Frames.{Keeps}
 use Rattle.solve_workspace.specs.Work.{with-stats}
-use Rattle.solve_workspace.specs.Lent.{WORK, GENERATED, PRUNED, «FRONTIER_PEAK», WORDS, regs, reached}
+use Rattle.solve_workspace.specs.Lent.{WORK, GENERATED, PRUNED, WORDS, regs, reached}
 use Rattle.solve_workspace.specs.Stores.{going-meets, halted-meets, going-keeps}
 use Rattle.solve_builder.specs.Building.{BuildingAt, with-builder-to}
 use Rattle.solve_builder.specs.Opening.{going-building}
@@ -58,10 +58,10 @@ module _ (b : Bounds) (g g₁ : List ℕ) (d₀ : Builder) (c : ScratchCandidate
       halted-meets g₁ e₁
       (present-stop b (regs g) (counted-stats g) refl w c fs fs′ n (subst (λ (z : Builder). Refused fs fs′ (b .frontier) z (carried (numbered c (at g GENERATED))) n) same-builder r) ts rs ps es ks ns f)
 
-  module _ (g₂ : List ℕ) (d : Builder) (n m : ℕ) (l : WORDS ≤ length g₁) (p : m ≡ max (at g₁ «FRONTIER_PEAK») (d .live)) (e₂ : regs g₂ ≡ with-builder-to (regs (set (set g₁ PRUNED (at g₁ PRUNED + n)) «FRONTIER_PEAK» m)) d) where
+  module _ (g₂ : List ℕ) (d : Builder) (n : ℕ) (l : WORDS ≤ length g₁) (e₂ : regs g₂ ≡ with-builder-to (regs (set g₁ PRUNED (at g₁ PRUNED + n))) d) where
     all-stored : regs g₂ ≡ with-frontier-to (regs g) (more-pruned (counted-stats g) n) d
     all-stored =
-        e₂ ∙ (ap (λ (s : Registers). with-builder-to s d) (pruned-stored g₁ l n m (d .live) p) ∙ ap (λ (s : Registers). with-frontier-to s (more-pruned (s .stats) n) d) e₁)
+        e₂ ∙ (ap (λ (s : Registers). with-builder-to s d) (pruned-stored g₁ l n) ∙ ap (λ (s : Registers). with-frontier-to s (more-pruned (s .stats) n) d) e₁)
 
     pub going : (fs fs′ : List ℕ) → at g WORK < b .«work_limit» → Sound b (regs g) → Frontier fs (b .frontier) (regs g .builder) → After fs fs′ (b .frontier) d₀ d (carried (numbered c (at g GENERATED))) n
         → (ts rs ps es ks ns : List Row)

@@ -28,7 +28,6 @@ use Rattle.solve_workspace.specs.declared.Reached.the-variants.{Go, Stop}
 use Rattle.solve_workspace.specs.Meets.{counts, Sound, Meets}
 use Rattle.solve_workspace.specs.Rows.{Row, survivor, abs}
 use Rattle.solve_workspace.specs.Work.{with-stats}
-use Rattle.solve_workspace.specs.Stacks.{with-peaks}
 use Rattle.solve_builder.specs.Building.{with-builder-to}
 
 -- ---- the rule looks at cost and column alone
@@ -100,12 +99,8 @@ more-pruned t n = record {
   visits = t .visits;
 }
 
--- a frontier of n was needed
-abbrev pub fronted : ℕ → Registers → Registers
-fronted n s = with-peaks s (record { stack = s .peaks .stack; memo = s .peaks .memo; frontier = max (s .peaks .frontier) n })
-
 abbrev pub with-frontier-to : Registers → SolveStats → Builder → Registers
-with-frontier-to s t f = fronted (f .live) (with-builder-to (with-stats s t) f)
+with-frontier-to s t f = with-builder-to (with-stats s t) f
 
 pub present-spent : (S : State) (b : Bounds) (s : Registers) (c : Scratch) (f : Registers → State) → b .«work_limit» ≤ s .stats .«work_items» → Meets b (counts s) (present c S) (Stop Work 0 s) f
 unfolding present
@@ -152,8 +147,9 @@ module _ (b : Bounds) (s : Registers) (t : SolveStats) (e : t ≡ bumped (bumped
       let j : length (map survivor new) ≤ b .frontier = omega (arith, length-map new survivor, survive-few (a .frontier)) in
       let k : length (map survivor old) + 1 - length (map survivor new) ≡ n = omega (arith, length-map new survivor, length-map old survivor, a .pruned-is, ap length (a .survivors-are)) in
       let m : length (map survivor new) ≡ d .live = length-map new survivor ∙ survive-length (a .frontier .sound .kept) in
+      let u : max (max (s .peaks .frontier) (s .builder .used)) (d .live) ≡ max (s .peaks .frontier) (d .used) = omega (arith, a .most) in
       record {
-        is = rw (present-is (survivor (carried c)) (abs s ts rs ps es ks fs ns) (map survivor new) i, lt-ltb (s .stats .«work_items») (b .«work_limit») h, le-leb (length (map survivor new)) (b .frontier) j, k, m, e);
+        is = rw (present-is (survivor (carried c)) (abs s ts rs ps es ks fs ns) (map survivor new) i, lt-ltb (s .stats .«work_items») (b .«work_limit») h, le-leb (length (map survivor new)) (b .frontier) j, k, m, u, e);
         sound = present-sound b s t d n (length old) (length new) e snd h (sym (survive-length (at .sound .kept))) (sym (survive-length (a .frontier .sound .kept)))
             (rw (a .survivors-are) (present-few old x)) (rw (a .survivors-are) (a .pruned-is));
       }

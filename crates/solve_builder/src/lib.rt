@@ -86,11 +86,13 @@ fn count_candidate(g: &mut [u64])
 
 // ---- presenting
 
-// An empty frontier, whatever the slots hold.
+// An empty frontier, whatever the slots hold. Of the one before it as many slots were needed as it used.
 pub fn begin_builder(g: &mut [u64])
     requires { ⌜ WORDS ≤ length (now g) ⌝ }
     ensures { λ _. ⌜ Begun (regs (now (g .entry))) (regs (now (g .exit))) ⌝ }
 {
+    let used = g[USED];
+    solve_workspace::raise(g, FRONTIER_PEAK, used);
     let opened = frontier::begin_builder();
     store_builder(g, opened);
 }
@@ -123,9 +125,7 @@ pub fn present(b: Bounds, g: &mut [u64], frontier: &mut [u64], c: ScratchCandida
         Presented::Exhausted(needed) => Turn::Halted(Why::Frontier, needed),
         Presented::Done(after, pruned) => {
             let earlier = g[PRUNED];
-            let most = solve_workspace::greater(g[FRONTIER_PEAK], after.live);
             g[PRUNED] = earlier + pruned;
-            g[FRONTIER_PEAK] = most;
             store_builder(g, after);
             Turn::Going
         }

@@ -1,5 +1,5 @@
 -- A completing task and a child, pushed by one function: none has room, the first alone has, both have.
-use mathlib.Core.Path.{_≡_, refl}
+use mathlib.Core.Path.{_≡_, refl, ap, _∙_}
 use mathlib.Core.List.{List}
 use Prim.Native.Nat.{ℕ, _+_, _≤_, _<_, max}
 use native.Mathlib.Omega.{arith}
@@ -18,8 +18,8 @@ use Rattle.solve_workspace.specs.Rows.{Row, at, task-of, abs}
 use Rattle.solve_workspace.specs.Frames.{Keeps}
 use Rattle.solve_workspace.specs.Runs.{seq, halt}
 use Rattle.solve_workspace.specs.Stacks.{with-tasks-to, sound-tasks, sound-peaks, stopped-alike, tasks-pushed, task-go, task-stop}
-use Rattle.solve_workspace.specs.Lent.{TASKS, «STACK_PEAK», WORDS, regs, Held, reached}
-use Rattle.solve_workspace.specs.Stores.{reads, stores, now-regs, tasks-stored, going-meets, halted-meets, going-keeps}
+use Rattle.solve_workspace.specs.Lent.{TASKS, «STACK_PEAK», WORDS, regs, lifted, Held, reached}
+use Rattle.solve_workspace.specs.Stores.{reads, stores, lifts, now-regs, tasks-stored, going-meets, halted-meets, going-keeps}
 
 module _ (R : Rules) (P : Prepared) (b : Bounds) (s : Registers) (ts rs ps es ks : List Row) (fs : List ℕ) (ns : List Row) (t : Task) (q : MemoKey) where
   child-none : (f : Registers → State) → b .stack ≤ s .tasks → Meets b (counts s) (push-child R P t q (abs s ts rs ps es ks fs ns)) (Stop Stack (s .tasks + 1) s) f
@@ -47,21 +47,22 @@ module _ (R : Rules) (P : Prepared) (b : Bounds) (s : Registers) (ts rs ps es ks
 abbrev pub once : List ℕ → List ℕ
 once g = set g TASKS (at g TASKS + 1)
 
-abbrev pub twice : List ℕ → ℕ → List ℕ
-twice g m = set (set (once g) TASKS (at g TASKS + 1 + 1)) «STACK_PEAK» m
+abbrev pub twice : List ℕ → List ℕ
+twice g = lifted (set (once g) TASKS (at g TASKS + 1 + 1)) «STACK_PEAK» (at g TASKS + 1 + 1)
 
 -- the first need is less than the second
 twice-peak : (p n : ℕ) → max p (n + 1 + 1) ≡ max (max p (n + 1)) (n + 1 + 1)
 twice-peak p n = omega arith
 
-module _ (g : List ℕ) (m : ℕ) (l : WORDS ≤ length g) (e : m ≡ max (at g «STACK_PEAK») (at g TASKS + 1 + 1)) where
-  twice-stored : regs (twice g m) ≡ tasks-pushed (tasks-pushed (regs g))
+module _ (g G : List ℕ) (l : WORDS ≤ length g) (e : G ≡ twice g) where
+  twice-stored : regs G ≡ tasks-pushed (tasks-pushed (regs g))
   twice-stored =
-      rw (e, twice-peak (at g «STACK_PEAK») (at g TASKS))
-      (now-regs (stores «STACK_PEAK» (max (max (at g «STACK_PEAK») (at g TASKS + 1)) (at g TASKS + 1 + 1)) (omega arith) (stores TASKS (at g TASKS + 1 + 1) (omega arith) (stores TASKS (at g TASKS + 1) (omega arith) (reads g l)))))
+      ap regs e
+      ∙ (now-regs (lifts «STACK_PEAK» (at g TASKS + 1 + 1) (omega arith) (stores TASKS (at g TASKS + 1 + 1) (omega arith) (stores TASKS (at g TASKS + 1) (omega arith) (reads g l))))
+      ∙ rw (← twice-peak (at g «STACK_PEAK») (at g TASKS)) refl)
 
-  pub twice-keeps : Keeps (regs g) (reached Going (twice g m))
-  twice-keeps = going-keeps (twice g m) twice-stored (record { by = record { memo = refl; results = refl; pending = omega arith } })
+  pub twice-keeps : Keeps (regs g) (reached Going G)
+  twice-keeps = going-keeps G twice-stored (record { by = record { memo = refl; results = refl; pending = omega arith } })
 
 module _ (R : Rules) (P : Prepared) (b : Bounds) (g : List ℕ) (ts rs ps es ks : List Row) (fs : List ℕ) (ns : List Row) (t : Task) (q : MemoKey) where
   pub none-on : (f : Registers → State) → b .stack ≤ at g TASKS → Meets b (counts (regs g)) (push-child R P t q (abs (regs g) ts rs ps es ks fs ns)) (reached (Halted Stack (at g TASKS + 1)) g) f
@@ -74,9 +75,9 @@ module _ (R : Rules) (P : Prepared) (b : Bounds) (g : List ℕ) (ts rs ps es ks 
       (stopped-alike (with-tasks-to (regs g) (at g TASKS + 1)) (tasks-pushed (regs g) .peaks)
       (child-one R P b (regs g) ts rs ps es ks fs ns t q x f e m l (sound-tasks (at g TASKS + 1) (h .sound) (omega arith)) k))
 
-  pub both-on : (m : ℕ) (x y : Row) → Held b g → m ≡ max (at g «STACK_PEAK») (at g TASKS + 1 + 1) → task-of x ≡ t → task-of y ≡ Eval q → at g TASKS + 1 < b .stack → b .stack ≤ length ts
-      → Meets b (counts (regs g)) (push-child R P t q (abs (regs g) ts rs ps es ks fs ns)) (reached Going (twice g m)) (λ z. abs z (set (set ts (at g TASKS) x) (at g TASKS + 1) y) rs ps es ks fs ns)
-  both-on m x y h p e d k l =
-      going-meets (twice g m) (twice-stored g m (h .room) p)
+  pub both-on : (G : List ℕ) (x y : Row) → Held b g → G ≡ twice g → task-of x ≡ t → task-of y ≡ Eval q → at g TASKS + 1 < b .stack → b .stack ≤ length ts
+      → Meets b (counts (regs g)) (push-child R P t q (abs (regs g) ts rs ps es ks fs ns)) (reached Going G) (λ z. abs z (set (set ts (at g TASKS) x) (at g TASKS + 1) y) rs ps es ks fs ns)
+  both-on G x y h p e d k l =
+      going-meets G (twice-stored g G (h .room) p)
       (child-both R P b (regs g) ts rs ps es ks fs ns t q x y e d k (omega arith) l (omega (arith, length-set ts (at g TASKS) x))
       (sound-tasks (at g TASKS + 1) (h .sound) (omega arith)) (sound-tasks (at g TASKS + 1 + 1) (sound-peaks (with-tasks-to (regs g) (at g TASKS + 1)) (tasks-pushed (regs g) .peaks) (sound-tasks (at g TASKS + 1) (h .sound) (omega arith))) (omega arith)))

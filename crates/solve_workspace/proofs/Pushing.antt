@@ -1,7 +1,7 @@
 -- A task or a result pushed, and a result taken off.
 use mathlib.Core.Path.{_≡_, refl, sym, ap, _∙_, subst}
 use mathlib.Core.List.{List, [], _∷_}
-use Prim.Native.Nat.{ℕ, suc, _+_, _≤_, _<_, _^_, max}
+use Prim.Native.Nat.{ℕ, suc, _+_, _≤_, _<_, _^_}
 use native.Mathlib.Omega.{arith}
 use lib.ListN.{length, getD, set}
 use Rattle.machine.specs.Events.{ret}
@@ -16,27 +16,27 @@ use Rattle.solve_workspace.specs.Rows.{Row, at, low, task-of, abs}
 use Rattle.solve_workspace.specs.Frames.{Keeps, SameMemo, Popped}
 use Rattle.solve_workspace.specs.Stacks.{with-results-to, with-range-to, tasks-pushed, results-pushed, sound-tasks, task-go, task-stop, result-go, result-stop, pop-is}
 use Rattle.solve_workspace.specs.Words.{low-is}
-use Rattle.solve_workspace.specs.Lent.{TASKS, RESULTS, START, LEN, «STACK_PEAK», WORDS, regs, Held, reached}
-use Rattle.solve_workspace.specs.Stores.{reads, stores, now-regs, going-meets, halted-meets, going-keeps, going-same}
+use Rattle.solve_workspace.specs.Lent.{TASKS, RESULTS, START, LEN, «STACK_PEAK», WORDS, regs, lifted, Held, reached}
+use Rattle.solve_workspace.specs.Stores.{reads, stores, lifts, now-regs, going-meets, halted-meets, going-keeps, going-same}
 
 -- ---- the words after a push
 
--- the word i is n, and a stack of m was needed
-abbrev pub pushed : List ℕ → ℕ → ℕ → ℕ → List ℕ
-pushed g i n m = set (set g i n) «STACK_PEAK» m
+-- the word i is n, and so much of the stack was needed
+abbrev pub pushed : List ℕ → ℕ → ℕ → List ℕ
+pushed g i n = lifted (set g i n) «STACK_PEAK» n
 
-module _ (g : List ℕ) (m : ℕ) (l : WORDS ≤ length g) where
-  tasks-on : m ≡ max (at g «STACK_PEAK») (at g TASKS + 1) → regs (pushed g TASKS (at g TASKS + 1) m) ≡ tasks-pushed (regs g)
-  tasks-on e = rw (e) (now-regs (stores «STACK_PEAK» (max (at g «STACK_PEAK») (at g TASKS + 1)) (omega arith) (stores TASKS (at g TASKS + 1) (omega arith) (reads g l))))
+module _ (g G : List ℕ) (l : WORDS ≤ length g) where
+  tasks-on : G ≡ pushed g TASKS (at g TASKS + 1) → regs G ≡ tasks-pushed (regs g)
+  tasks-on e = ap regs e ∙ now-regs (lifts «STACK_PEAK» (at g TASKS + 1) (omega arith) (stores TASKS (at g TASKS + 1) (omega arith) (reads g l)))
 
-  results-on : m ≡ max (at g «STACK_PEAK») (at g RESULTS + 1) → regs (pushed g RESULTS (at g RESULTS + 1) m) ≡ results-pushed (regs g)
-  results-on e = rw (e) (now-regs (stores «STACK_PEAK» (max (at g «STACK_PEAK») (at g RESULTS + 1)) (omega arith) (stores RESULTS (at g RESULTS + 1) (omega arith) (reads g l))))
+  results-on : G ≡ pushed g RESULTS (at g RESULTS + 1) → regs G ≡ results-pushed (regs g)
+  results-on e = ap regs e ∙ now-regs (lifts «STACK_PEAK» (at g RESULTS + 1) (omega arith) (stores RESULTS (at g RESULTS + 1) (omega arith) (reads g l)))
 
-  pub tasks-keeps : m ≡ max (at g «STACK_PEAK») (at g TASKS + 1) → Keeps (regs g) (reached Going (pushed g TASKS (at g TASKS + 1) m))
-  tasks-keeps e = going-keeps (pushed g TASKS (at g TASKS + 1) m) (tasks-on e) (record { by = record { memo = refl; results = refl; pending = omega arith } })
+  pub tasks-keeps : G ≡ pushed g TASKS (at g TASKS + 1) → Keeps (regs g) (reached Going G)
+  tasks-keeps e = going-keeps G (tasks-on e) (record { by = record { memo = refl; results = refl; pending = omega arith } })
 
-  pub results-same : m ≡ max (at g «STACK_PEAK») (at g RESULTS + 1) → SameMemo (regs g) (reached Going (pushed g RESULTS (at g RESULTS + 1) m))
-  results-same e = going-same (pushed g RESULTS (at g RESULTS + 1) m) (results-on e) (record { by = refl })
+  pub results-same : G ≡ pushed g RESULTS (at g RESULTS + 1) → SameMemo (regs g) (reached Going G)
+  results-same e = going-same G (results-on e) (record { by = refl })
 
 sound-results : {b : Bounds} {s : Registers} (n : ℕ) → Sound b s → n ≤ b .stack → Sound b (with-results-to s n)
 sound-results n h l = record { hits = h .hits; misses = h .misses; generated = h .generated; pruned = h .pruned; work = h .work; tasks = h .tasks; results = l; pending = h .pending; memo = h .memo; kept = h .kept; plans = h .plans; stack = h .stack }
@@ -44,19 +44,19 @@ sound-results n h l = record { hits = h .hits; misses = h .misses; generated = h
 -- ---- pushed
 
 module _ (b : Bounds) (g : List ℕ) (ts rs ps es ks : List Row) (fs : List ℕ) (ns : List Row) where
-  pub task-on : (m : ℕ) (x : Row) (t : Task) → Held b g → m ≡ max (at g «STACK_PEAK») (at g TASKS + 1) → task-of x ≡ t → at g TASKS < b .stack → b .stack ≤ length ts
-      → Meets b (counts (regs g)) (push-exact-task t (abs (regs g) ts rs ps es ks fs ns)) (reached Going (pushed g TASKS (at g TASKS + 1) m)) (λ z. abs z (set ts (at g TASKS) x) rs ps es ks fs ns)
-  task-on m x t h p e k r =
-      going-meets (pushed g TASKS (at g TASKS + 1) m) (tasks-on g m (h .room) p)
+  pub task-on : (G : List ℕ) (x : Row) (t : Task) → Held b g → G ≡ pushed g TASKS (at g TASKS + 1) → task-of x ≡ t → at g TASKS < b .stack → b .stack ≤ length ts
+      → Meets b (counts (regs g)) (push-exact-task t (abs (regs g) ts rs ps es ks fs ns)) (reached Going G) (λ z. abs z (set ts (at g TASKS) x) rs ps es ks fs ns)
+  task-on G x t h p e k r =
+      going-meets G (tasks-on g G (h .room) p)
       (task-go b (regs g) ts rs ps es ks fs ns x t e k r (sound-tasks (at g TASKS + 1) (h .sound) (omega arith)))
 
   pub task-full : (t : Task) (f : Registers → State) → b .stack ≤ at g TASKS → Meets b (counts (regs g)) (push-exact-task t (abs (regs g) ts rs ps es ks fs ns)) (reached (Halted Stack (at g TASKS + 1)) g) f
   task-full t f h = halted-meets g refl (task-stop b (regs g) ts rs ps es ks fs ns t f h)
 
-  pub result-on : (m i l : ℕ) → Held b g → m ≡ max (at g «STACK_PEAK») (at g RESULTS + 1) → at g RESULTS < b .stack → b .stack ≤ length rs
-      → Meets b (counts (regs g)) (push-exact-result (range i l) (abs (regs g) ts rs ps es ks fs ns)) (reached Going (pushed g RESULTS (at g RESULTS + 1) m)) (λ z. abs z ts (set rs (at g RESULTS) (i ∷ l ∷ [])) ps es ks fs ns)
-  result-on m i l h p k r =
-      going-meets (pushed g RESULTS (at g RESULTS + 1) m) (results-on g m (h .room) p)
+  pub result-on : (G : List ℕ) (i l : ℕ) → Held b g → G ≡ pushed g RESULTS (at g RESULTS + 1) → at g RESULTS < b .stack → b .stack ≤ length rs
+      → Meets b (counts (regs g)) (push-exact-result (range i l) (abs (regs g) ts rs ps es ks fs ns)) (reached Going G) (λ z. abs z ts (set rs (at g RESULTS) (i ∷ l ∷ [])) ps es ks fs ns)
+  result-on G i l h p k r =
+      going-meets G (results-on g G (h .room) p)
       (result-go b (regs g) ts rs ps es ks fs ns i l k r (sound-results (at g RESULTS + 1) (h .sound) (omega arith)))
 
   pub result-full : (i l : ℕ) (f : Registers → State) → b .stack ≤ at g RESULTS → Meets b (counts (regs g)) (push-exact-result (range i l) (abs (regs g) ts rs ps es ks fs ns)) (reached (Halted Stack (at g RESULTS + 1)) g) f

@@ -1,7 +1,7 @@
 -- The solver's registers as a list of words, and what a turn has reached with them. A register is read by the name of its word, here and in the code.
-use Prim.Native.Nat.{ℕ, _≤_}
+use Prim.Native.Nat.{ℕ, _≤_, max}
 use mathlib.Core.List.{List}
-use lib.ListN.{length}
+use lib.ListN.{length, set}
 use Rattle.solve_workspace.specs.declared.Bounds.{Bounds}
 use Rattle.solve_workspace.specs.declared.Registers.{Registers}
 use Rattle.solve_workspace.specs.declared.Reached.{Reached}
@@ -121,6 +121,10 @@ of-words w = record {
 
 abbrev pub regs : List ℕ → Registers
 regs g = of-words (λ i. at g i)
+
+-- the word at i is n at least
+abbrev pub lifted : List ℕ → ℕ → ℕ → List ℕ
+lifted g i n = set g i (max (at g i) n)
 
 -- all words are there, and what they hold is sound
 pub record Held (b : Bounds) (g : List ℕ) : Type 0 where

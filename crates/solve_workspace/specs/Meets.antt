@@ -1,6 +1,6 @@
 -- What the solver's code promises of where it has come to: it is what a program of the machine comes to under the bounds.
 use mathlib.Core.Path.{_≡_}
-use Prim.Native.Nat.{_+_, _≤_, _<_, _^_}
+use Prim.Native.Nat.{_+_, _≤_, _<_, _^_, max}
 use Rattle.stats.specs.declared.SolveStats.{SolveStats}
 use Rattle.machine.specs.Events.{Bounds as Limits, Counts, no-needs, with-needs, Event, Prog, ret, emit, Out, done, stop, run, Why as Reasons, domain, work-spent, too-small, stack, memo, kept, frontier, plans}
 use Rattle.machine.specs.Events.{Needs as Needed}
@@ -57,13 +57,13 @@ needs-told q = record {
   spans = q .spans;
 }
 
--- what the solver has needed so far; the other kinds are the materializer's
+-- what the solver has needed so far; the other kinds are the materializer's. The frontier at work has used as many slots as it held at most
 abbrev pub needs-in : Registers → Needed
 needs-in s = record {
   stack = s .peaks .stack;
   memo = s .peaks .memo;
   kept = s .kept;
-  frontier = s .peaks .frontier;
+  frontier = max (s .peaks .frontier) (s .builder .used);
   plans = s .plans;
   visit = 0;
   depth = 0;

@@ -2,7 +2,7 @@
 use mathlib.Core.Path.{_≡_, refl, sym, ap, _∙_, fun-ext, subst}
 use mathlib.Core.Bool.{Bool, true, false, cond}
 use mathlib.Core.List.{List}
-use Prim.Native.Nat.{ℕ, _≤_, _<_}
+use Prim.Native.Nat.{ℕ, _≤_, _<_, max}
 use native.Mathlib.Omega.{arith}
 use lib.Dec.{eqb}
 use lib.ListN.{length, set, length-set}
@@ -20,7 +20,7 @@ use Rattle.solve_workspace.specs.Rows.{Row, at}
 use Rattle.solve_workspace.specs.Frames.{Keeps, SameMemo, MemoryAt}
 use Rattle.solve_workspace.specs.Runs.{ok}
 use Rattle.solve_workspace.specs.Stacks.{with-tasks-to}
-use Rattle.solve_workspace.specs.Lent.{TASKS, WORDS, of-words, regs, Held, reached}
+use Rattle.solve_workspace.specs.Lent.{TASKS, WORDS, of-words, regs, lifted, Held, reached}
 
 -- ---- which turn
 
@@ -56,6 +56,9 @@ put-at g w i v j l e = go (eqb j i) refl
 -- one word more is stored
 pub stores : {g : List ℕ} {w : ℕ → ℕ} (i v : ℕ) → i < WORDS → Reads g w → Reads (set g i v) (put w i v)
 stores {g = g} {w = w} i v l r = record { room = omega (arith, length-set g i v, r .room); is = λ j. put-at g w i v j (omega (arith, r .room)) (r .is j) }
+
+pub lifts : {g : List ℕ} {w : ℕ → ℕ} (i n : ℕ) → i < WORDS → Reads g w → Reads (lifted g i n) (put w i (max (w i) n))
+lifts {g = g} {w = w} i n l r = subst (λ (m : ℕ). Reads (set g i (max m n)) (put w i (max (w i) n))) (sym (r .is i)) (stores i (max (w i) n) l r)
 
 -- the registers then
 pub now-regs : {g : List ℕ} {w : ℕ → ℕ} → Reads g w → regs g ≡ of-words w

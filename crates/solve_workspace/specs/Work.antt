@@ -68,4 +68,4 @@ pub popped-held : {b : Bounds} {g h : List ℕ} → Popped (regs g) (regs h) →
 popped-held p e r = record { room = omega (arith, r .room); sound = popped-sound p (r .sound) }
 
 pub popped-from : {A : Type 0} {b : Bounds} {o s : Registers} {p : Prog A} {a : Reached} {f : Registers → A} → Popped o s → Meets b (counts s) p a f → Meets b (counts o) p a f
-popped-from {b = b} {o = o} {p = p} {a = a} {f = f} q h = rw (← q .stats, ← q .peaks, ← q .kept, ← q .plans) h
+popped-from {b = b} {o = o} {p = p} {a = a} {f = f} q h = rw (← q .stats, ← q .peaks, ← q .kept, ← q .plans, ← q .builder) h

@@ -14,7 +14,7 @@ ghost use Rattle.cost.specs.Value.{value};
 ghost use Rattle.solve_workspace.specs.Meets.{Meets, counts, ticked, reason};
 ghost use Rattle.solve_workspace.specs.Rows.{Row, abs, task-of, meant, plan-of, scratch-of, survivor, candidate, candidate-of, row-list};
 ghost use Rattle.solve_workspace.specs.Frames.{Keeps, SameMemo, Popped, Memory, MemoryAt};
-ghost use Rattle.solve_workspace.specs.Lent.{WORDS, regs, Held, reached};
+ghost use Rattle.solve_workspace.specs.Lent.{WORDS, regs, lifted, Held, reached};
 ghost use Rattle.solve_workspace.specs.Reading.{cost-model};
 use cost::ConsumerCost;
 use cost::PreparedConsumerCostModel;
@@ -76,7 +76,8 @@ pub fn cost_model(options: RenderOptions) -> PreparedConsumerCostModel
     }
 }
 
-// The greatest size needed so far of the kinds whose stores do not only grow (document 02, change 10). Kept candidates and plans only grow: of them it is how many there are.
+// The greatest size needed so far of the kinds whose stores do not only grow (document 02, change 10), of the frontier before the one at work. Kept candidates and plans only grow: of them it is how
+// many there are.
 pub struct Peaks {
     pub stack: usize,
     pub memo: usize,
@@ -339,6 +340,16 @@ pub fn greater(a: u64, b: u64) -> u64
     a
 }
 
+// The word at `place` is n at least. It is stored only where it grows, which a peak seldom does.
+pub fn raise(g: &mut [u64], place: usize, n: u64)
+    requires { ⌜ place < length (now g) ⌝ }
+    ensures { λ _. ⌜ now (g .exit) ≡ lifted (now (g .entry)) place n ⌝ }
+{
+    if g[place] < n {
+        g[place] = n;
+    }
+}
+
 // Kept candidate `index` of `count`. No run asks for one past the end; the answer there is the definition's.
 pub fn candidate_at(kept: &[[u64; 6]], count: usize, index: usize) -> Candidate
     requires { ⌜ count ≤ length (now kept) ⌝ }
@@ -383,9 +394,8 @@ pub fn push_exact_task(b: Bounds, g: &mut [u64], tasks: &mut [[u32; 9]], task: E
     let row = task_row(task);
     tasks[t] = row;
     let top = (t + 1) as u64;
-    let most = greater(g[STACK_PEAK], top);
     g[TASKS] = top;
-    g[STACK_PEAK] = most;
+    raise(g, STACK_PEAK, top);
     Turn::Going
 }
 
@@ -408,9 +418,8 @@ pub fn push_exact_result(
     }
     results[r] = [start, len];
     let top = (r + 1) as u64;
-    let most = greater(g[STACK_PEAK], top);
     g[RESULTS] = top;
-    g[STACK_PEAK] = most;
+    raise(g, STACK_PEAK, top);
     Turn::Going
 }
 
@@ -527,10 +536,9 @@ pub fn memo_insert(
         MemoInsertion::Full { needed } => Turn::Halted(Why::Memo, needed),
         MemoInsertion::Inserted(n) => {
             let entered = n as u64;
-            let most = greater(g[MEMO_PEAK], count as u64 + 1);
             g[MEMO] = entered;
             g[ENTRIES] = entered;
-            g[MEMO_PEAK] = most;
+            raise(g, MEMO_PEAK, count as u64 + 1);
             Turn::Going
         }
     }
@@ -571,7 +579,6 @@ pub fn push_child(
     ensures keeps { λ a. ⌜ Keeps (regs (now (g .entry))) (reached a (now (g .exit))) ⌝ }
 {
     let t = g[TASKS] as usize;
-    let peak = g[STACK_PEAK];
     let size = b.stack as usize;
     if size <= t {
         let needed = (t + 1) as u64;
@@ -588,8 +595,7 @@ pub fn push_child(
     let inner = task_row(ExactTask::Eval(child));
     tasks[u] = inner;
     let top = (u + 1) as u64;
-    let most = greater(peak, top);
     g[TASKS] = top;
-    g[STACK_PEAK] = most;
+    raise(g, STACK_PEAK, top);
     Turn::Going
 }

@@ -2,6 +2,15 @@ use borrow.Author.Needs.{needs}
 use Rattle.solve.proofs.needs_of.Statement.{statement}
 use Rattle.solve.proofs.needs_of.Tie as tie
 
+shared-slice-read-greater : tie.Need-shared-slice-read-greater
+shared-slice-read-greater c = search needs
+
+shared-slice-read-greater-2 : tie.Need-shared-slice-read-greater-2
+shared-slice-read-greater-2 c = search needs
+
+greater-requires : tie.Need-greater-requires
+greater-requires c κs = search needs
+
 shared-slice-read-narrow : tie.Need-shared-slice-read-narrow
 shared-slice-read-narrow c = search needs
 
@@ -20,33 +29,32 @@ shared-slice-read-narrow-3 c = search needs
 narrow-requires-3 : tie.Need-narrow-requires-3
 narrow-requires-3 c κs = search needs
 
-shared-slice-read-narrow-4 : tie.Need-shared-slice-read-narrow-4
-shared-slice-read-narrow-4 c = search needs
-
 narrow-requires-4 : tie.Need-narrow-requires-4
 narrow-requires-4 c κs = search needs
 
-shared-slice-read-narrow-5 : tie.Need-shared-slice-read-narrow-5
-shared-slice-read-narrow-5 c = search needs
+shared-slice-read-narrow-4 : tie.Need-shared-slice-read-narrow-4
+shared-slice-read-narrow-4 c = search needs
 
 narrow-requires-5 : tie.Need-narrow-requires-5
 narrow-requires-5 c κs = search needs
 
 returns : tie.Need-returns
-returns c = rw (c .before .before .before .before .before .before .before .before .narrow .ensures, c .before .before .before .before .before .before .narrow2 .ensures, c .before .before .before .before .narrow3 .ensures, c .before .before .narrow4 .ensures, c .narrow5 .ensures)
+returns c = rw (c .before .before .before .before .before .before .before .narrow .ensures, c .before .before .before .before .before .narrow2 .ensures, c .before .before .before .narrow3 .ensures, c .before .before .narrow4 .ensures, c .narrow5 .ensures, c .before .before .before .before .before .before .before .before .before .greater .ensures)
 
 pub needs-of-spec : {M : Type 1} → statement M
 needs-of-spec =
     tie.close
     (tie.spec
+    shared-slice-read-greater
+    shared-slice-read-greater-2
+    greater-requires
     shared-slice-read-narrow
     narrow-requires
     shared-slice-read-narrow-2
     narrow-requires-2
     shared-slice-read-narrow-3
     narrow-requires-3
-    shared-slice-read-narrow-4
     narrow-requires-4
-    shared-slice-read-narrow-5
+    shared-slice-read-narrow-4
     narrow-requires-5
     returns)

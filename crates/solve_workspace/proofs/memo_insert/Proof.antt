@@ -22,23 +22,17 @@ enum-known-needed c = search needs
 enum-known-n : tie.Need-enum-known-n
 enum-known-n c = search needs
 
-slice-read-greater : tie.Need-slice-read-greater
-slice-read-greater c = search needs
-
-add-greater : tie.Need-add-greater
-add-greater c = search needs
-
-greater-requires : tie.Need-greater-requires
-greater-requires c κs = search needs
-
 slice-write-g : tie.Need-slice-write-g
 slice-write-g c = search needs
 
 slice-write-g-2 : tie.Need-slice-write-g-2
 slice-write-g-2 c = simp length-set (omega arith)
 
-slice-write-g-3 : tie.Need-slice-write-g-3
-slice-write-g-3 c = simp length-set (omega arith)
+add-raise : tie.Need-add-raise
+add-raise c = search needs
+
+raise-requires : tie.Need-raise-requires
+raise-requires c κs = simp length-set (omega arith)
 
 same-length : tie.Need-same-length
 same-length c = search needs
@@ -50,7 +44,7 @@ returns : tie.Need-returns
 returns c = (λ ts rs ps ks fs ns. insert-full _ (c .before .before .before .before .before .before .before .before .before .before .before .before .before .args .g .now) _ _ _ _ _ _ _ _ (refused-by (c .before .before .before .before .before .before .memo-insert .ensures) (c .before .needed .given .1)) ts rs ps ks fs ns _, halted-memory _ _ _ _ _ (c .before .before .before .before .before .before .before .before .before .before .before .before .before .args .g .now))
 
 same-length-3 : tie.Need-same-length-3
-same-length-3 c = search needs
+same-length-3 c = simp length-set at (c .before .g .given)
 
 same-length-4 : tie.Need-same-length-4
 same-length-4 c = search needs
@@ -60,8 +54,8 @@ same-length-5 c = search needs
 
 returns-2 : tie.Need-returns-2
 returns-2 c =
-    let k = entered-by (c .before .before .before .before .before .before .before .before .memo-insert .ensures) (c .before .before .before .n .given .1) in
-    (insert-on _ (c .before .before .before .before .before .before .before .before .before .before .before .before .before .before .before .args .g .now) _ _ _ _ _ _ _ _ _ (c .before .before .before .before .before .before .before .before .before .before .before .before .before .before .before .pre .1) (c .greater .ensures) k, memory-grown _ (c .before .before .before .before .before .before .before .before .before .before .before .before .before .before .before .args .g .now) _ _ _ _ _ _ _ _ _ (c .before .before .before .before .before .before .before .before .before .before .before .before .before .before .before .pre .1) (c .greater .ensures) (c .before .before .before .before .before .before .before .before .before .before .before .before .before .before .before .pre .0) k (omega arith) (omega arith) (search needs) (search needs))
+    let k = entered-by (c .before .before .before .before .before .before .before .before .before .before .memo-insert .ensures) (c .before .before .before .before .before .n .given .1) in
+    (insert-on _ (c .before .before .before .before .before .before .before .before .before .before .before .before .before .before .before .before .before .args .g .now) _ _ _ _ _ _ _ _ _ (c .before .before .before .before .before .before .before .before .before .before .before .before .before .before .before .before .before .pre .1) (c .before .before .raise .ensures) k, memory-grown _ (c .before .before .before .before .before .before .before .before .before .before .before .before .before .before .before .before .before .args .g .now) _ _ _ _ _ _ _ _ _ (c .before .before .before .before .before .before .before .before .before .before .before .before .before .before .before .before .before .pre .1) (c .before .before .raise .ensures) (c .before .before .before .before .before .before .before .before .before .before .before .before .before .before .before .before .before .pre .0) k (omega arith) (omega arith) (search needs) (search needs))
 
 pub memo-insert-spec : {M : Type 1} → statement M
 memo-insert-spec =
@@ -72,12 +66,10 @@ memo-insert-spec =
     memo-insert-requires
     enum-known-needed
     enum-known-n
-    slice-read-greater
-    add-greater
-    greater-requires
     slice-write-g
     slice-write-g-2
-    slice-write-g-3
+    add-raise
+    raise-requires
     same-length
     same-length-2
     returns

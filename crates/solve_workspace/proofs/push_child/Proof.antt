@@ -1,5 +1,5 @@
-use native.Mathlib.Omega.{arith}
 use lib.ListN.{length-set}
+use native.Mathlib.Omega.{arith}
 use Rattle.solve_workspace.proofs.Children.{none-on, one-on, both-on, twice-keeps}
 use Rattle.solve_workspace.specs.Stores.{halted-keeps}
 use borrow.Author.Needs.{needs}
@@ -9,9 +9,6 @@ use Rattle.solve_workspace.proofs.push_child.Tie as tie
 slice-read-t : tie.Need-slice-read-t
 slice-read-t c = search needs
 
-slice-read-peak : tie.Need-slice-read-peak
-slice-read-peak c = search needs
-
 cast-size : tie.Need-cast-size
 cast-size c = search needs
 
@@ -19,7 +16,7 @@ add-needed : tie.Need-add-needed
 add-needed c = search needs
 
 returns : tie.Need-returns
-returns c = (λ R P rs ps es ks fs ns. none-on R P _ (c .before .before .before .before .before .args .g .now) _ rs ps es ks fs ns _ _ _ (omega arith), halted-keeps _ _ _ (c .before .before .before .before .before .args .g .now))
+returns c = (λ R P rs ps es ks fs ns. none-on R P _ (c .before .before .before .before .args .g .now) _ rs ps es ks fs ns _ _ _ (omega arith), halted-keeps _ _ _ (c .before .before .before .before .args .g .now))
 
 task-row-requires : tie.Need-task-row-requires
 task-row-requires c κs = search needs
@@ -46,7 +43,7 @@ same-length-2 : tie.Need-same-length-2
 same-length-2 c = search needs
 
 returns-2 : tie.Need-returns-2
-returns-2 c = (λ R P rs ps es ks fs ns. one-on R P _ (c .before .before .before .before .before .before .before .args .g .now) _ rs ps es ks fs ns _ _ _ _ (c .before .before .before .before .before .before .before .pre .1) (c .before .task-row .ensures) (omega arith) (omega arith) (omega arith), halted-keeps _ _ _ _)
+returns-2 c = (λ R P rs ps es ks fs ns. one-on R P _ (c .before .before .before .before .before .before .args .g .now) _ rs ps es ks fs ns _ _ _ _ (c .before .before .before .before .before .before .pre .1) (c .before .task-row .ensures) (omega arith) (omega arith) (omega arith), halted-keeps _ _ _ _)
 
 task-row-requires-2 : tie.Need-task-row-requires-2
 task-row-requires-2 c κs = search needs
@@ -60,30 +57,26 @@ slice-set-from-inner c = simp length-set (omega arith)
 add-top : tie.Need-add-top
 add-top c = search needs
 
-greater-requires : tie.Need-greater-requires
-greater-requires c κs = search needs
-
 slice-write-g-2 : tie.Need-slice-write-g-2
 slice-write-g-2 c = simp length-set (omega arith)
 
-slice-write-g-3 : tie.Need-slice-write-g-3
-slice-write-g-3 c = simp length-set (omega arith)
+raise-requires : tie.Need-raise-requires
+raise-requires c κs = simp length-set (omega arith)
 
 same-length-3 : tie.Need-same-length-3
-same-length-3 c = search needs
+same-length-3 c = simp length-set at (c .before .g .given)
 
 same-length-4 : tie.Need-same-length-4
 same-length-4 c = search needs
 
 returns-3 : tie.Need-returns-3
-returns-3 c = (λ R P rs ps es ks fs ns. both-on R P _ (c .before .before .before .before .before .before .before .before .before .args .g .now) _ rs ps es ks fs ns _ _ _ _ _ (c .before .before .before .before .before .before .before .before .before .pre .1) (c .greater .ensures) (c .before .before .before .task-row .ensures) (c .before .task-row2 .ensures) (omega arith) (omega arith), twice-keeps (c .before .before .before .before .before .before .before .before .before .args .g .now) _ (omega arith) (c .greater .ensures))
+returns-3 c = (λ R P rs ps es ks fs ns. both-on R P _ (c .before .before .before .before .before .before .before .before .before .before .before .args .g .now) _ rs ps es ks fs ns _ _ _ _ _ (c .before .before .before .before .before .before .before .before .before .before .before .pre .1) (c .before .before .raise .ensures) (c .before .before .before .before .before .before .task-row .ensures) (c .before .before .before .before .task-row2 .ensures) (omega arith) (omega arith), twice-keeps (c .before .before .before .before .before .before .before .before .before .before .before .args .g .now) _ (omega arith) (c .before .before .raise .ensures))
 
 pub push-child-spec : {M : Type 1} → statement M
 push-child-spec =
     tie.close
     (tie.spec
     slice-read-t
-    slice-read-peak
     cast-size
     add-needed
     returns
@@ -100,9 +93,8 @@ push-child-spec =
     mul-inner
     slice-set-from-inner
     add-top
-    greater-requires
     slice-write-g-2
-    slice-write-g-3
+    raise-requires
     same-length-3
     same-length-4
     returns-3)

@@ -18,8 +18,8 @@ add-needed c = search needs
 returns : tie.Need-returns
 returns c = (λ ts ps es ks fs ns. result-full _ (c .before .before .before .before .args .g .now) ts _ ps es ks fs ns _ _ _ (omega arith), halted-same _ _ _ (c .before .before .before .before .args .g .now))
 
-mul-t17 : tie.Need-mul-t17
-mul-t17 c = search needs
+mul-t16 : tie.Need-mul-t16
+mul-t16 c = search needs
 
 slice-set-from-results : tie.Need-slice-set-from-results
 slice-set-from-results c = search needs
@@ -27,26 +27,20 @@ slice-set-from-results c = search needs
 add-top : tie.Need-add-top
 add-top c = search needs
 
-slice-read-greater : tie.Need-slice-read-greater
-slice-read-greater c = search needs
-
-greater-requires : tie.Need-greater-requires
-greater-requires c κs = search needs
-
 slice-write-g : tie.Need-slice-write-g
 slice-write-g c = search needs
 
-slice-write-g-2 : tie.Need-slice-write-g-2
-slice-write-g-2 c = simp length-set (omega arith)
+raise-requires : tie.Need-raise-requires
+raise-requires c κs = simp length-set (omega arith)
 
 same-length : tie.Need-same-length
-same-length c = search needs
+same-length c = simp length-set at (c .before .g .given)
 
 same-length-2 : tie.Need-same-length-2
 same-length-2 c = search needs
 
 returns-2 : tie.Need-returns-2
-returns-2 c = (λ ts ps es ks fs ns. result-on _ (c .before .before .before .before .before .before .args .g .now) ts _ ps es ks fs ns _ _ _ (c .before .before .before .before .before .before .pre .1) (c .greater .ensures) (omega arith) (omega arith), results-same (c .before .before .before .before .before .before .args .g .now) _ (omega arith) (c .greater .ensures))
+returns-2 c = (λ ts ps es ks fs ns. result-on _ (c .before .before .before .before .before .before .before .before .args .g .now) ts _ ps es ks fs ns _ _ _ (c .before .before .before .before .before .before .before .before .pre .1) (c .before .before .raise .ensures) (omega arith) (omega arith), results-same (c .before .before .before .before .before .before .before .before .args .g .now) _ (omega arith) (c .before .before .raise .ensures))
 
 pub push-exact-result-spec : {M : Type 1} → statement M
 push-exact-result-spec =
@@ -56,13 +50,11 @@ push-exact-result-spec =
     cast-size
     add-needed
     returns
-    mul-t17
+    mul-t16
     slice-set-from-results
     add-top
-    slice-read-greater
-    greater-requires
     slice-write-g
-    slice-write-g-2
+    raise-requires
     same-length
     same-length-2
     returns-2)

@@ -30,26 +30,20 @@ slice-set-from-row c = search needs
 add-top : tie.Need-add-top
 add-top c = search needs
 
-slice-read-greater : tie.Need-slice-read-greater
-slice-read-greater c = search needs
-
-greater-requires : tie.Need-greater-requires
-greater-requires c κs = search needs
-
 slice-write-g : tie.Need-slice-write-g
 slice-write-g c = search needs
 
-slice-write-g-2 : tie.Need-slice-write-g-2
-slice-write-g-2 c = simp length-set (omega arith)
+raise-requires : tie.Need-raise-requires
+raise-requires c κs = simp length-set (omega arith)
 
 same-length : tie.Need-same-length
-same-length c = search needs
+same-length c = simp length-set at (c .before .g .given)
 
 same-length-2 : tie.Need-same-length-2
 same-length-2 c = search needs
 
 returns-2 : tie.Need-returns-2
-returns-2 c = (λ rs ps es ks fs ns. task-on _ (c .before .before .before .before .before .before .before .args .g .now) _ rs ps es ks fs ns _ _ _ (c .before .before .before .before .before .before .before .pre .1) (c .greater .ensures) (c .before .before .task-row .ensures) (omega arith) (omega arith), tasks-keeps (c .before .before .before .before .before .before .before .args .g .now) _ (omega arith) (c .greater .ensures))
+returns-2 c = (λ rs ps es ks fs ns. task-on _ (c .before .before .before .before .before .before .before .before .before .args .g .now) _ rs ps es ks fs ns _ _ _ (c .before .before .before .before .before .before .before .before .before .pre .1) (c .before .before .raise .ensures) (c .before .before .before .before .task-row .ensures) (omega arith) (omega arith), tasks-keeps (c .before .before .before .before .before .before .before .before .before .args .g .now) _ (omega arith) (c .before .before .raise .ensures))
 
 pub push-exact-task-spec : {M : Type 1} → statement M
 push-exact-task-spec =
@@ -63,10 +57,8 @@ push-exact-task-spec =
     mul-row
     slice-set-from-row
     add-top
-    slice-read-greater
-    greater-requires
     slice-write-g
-    slice-write-g-2
+    raise-requires
     same-length
     same-length-2
     returns-2)
