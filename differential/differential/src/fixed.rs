@@ -509,8 +509,12 @@ pub fn cases() -> Vec<Case> {
     let [a, bb] = ["a", "bb"].map(|text| b.text(text)).map(|text| b.node(kind::PENALTY, 1, text));
     let empty = b.node(kind::EMPTY, 0, 0);
     let rest = b.node(kind::CHOICE, bb, empty);
-    b.listed(a, rest, &[a, bb, empty], 1);
-    let held = b.file();
+    let choice = b.listed(a, rest, &[a, bb, empty], 1);
+    // The Annotate's own frontier, which is finished later, holds 1.
+    let mut over = Build(b.0.clone());
+    over.0.annotations = 1;
+    over.node(kind::ANNOTATE, 0, choice);
+    let (held, over) = (b.file(), over.file());
     // Tasks: one for each Align on the way, and one.
     let mut b = Build::new();
     (0..5).fold(b.node(kind::EMPTY, 0, 0), |node, _| b.node(kind::ALIGN, node, 0));
@@ -539,6 +543,13 @@ pub fn cases() -> Vec<Case> {
     let output = [("119: HardLine in Nest 3, output 3", 20, 3, 4), ("119: HardLine in Nest 3, output 1", 20, 1, 2)];
     for (name, file, (text, peak), needs, smaller) in [
         ("116: frontier", held, ("", 1), [5, 6, 6, 2, 5, 1, 0, 0, 0], &[("116: frontier 1", 16, 1, 2)][..]),
+        (
+            "116: frontier, one more over it",
+            over,
+            ("", 1),
+            [6, 7, 7, 2, 6, 2, 1, 0, 1],
+            &[("116: frontier, one more over it, frontier 1", 16, 1, 2)],
+        ),
         ("117: tasks", tasks, ("", 1), [6, 6, 1, 1, 1, 1, 0, 0, 0], &[("117: tasks, stack 5", 13, 5, 6)]),
         ("117: results", results, ("", 1), [6, 3, 3, 1, 1, 1, 0, 0, 0], &[("117: results, stack 5", 13, 5, 6)]),
         ("117: pending", pending, ("aa", 5), [9, 21, 37, 5, 17, 2, 0, 2, 0], &[("117: pending, stack 8", 13, 8, 9)]),
