@@ -4,7 +4,7 @@ use Prim.Native.Nat.{ℕ, zero, suc, _+_, max}
 use native.Mathlib.Omega.{arith}
 use lib.ListN.{length, length-append, length-replicate}
 use Rattle.layout.specs.Layout.{Plan, blank, put, line, join, mark, fee, page}
-use Rattle.machine.specs.Events.{Kind, stack, memo, kept, frontier, plans, visit, depth, output, spans, Prog, ret, emit, _>>_, say, Need, Visit}
+use Rattle.machine.specs.Events.{Kind, stack, memo, kept, frontier, plans, visit, depth, output, spans, Prog, _>>_, say, Need, Visit}
 use Rattle.machine.specs.Materializer.{marks, append-each, visit-plan, materialize}
 use Rattle.machine.specs.Enough.{asks, peak, peak-bind}
 

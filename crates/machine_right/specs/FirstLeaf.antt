@@ -3,16 +3,15 @@
 use mathlib.Core.Path.{_≡_, refl, sym, ap, _∙_, subst}
 use mathlib.Core.Option.{Option, none, some}
 use mathlib.Core.List.{List, [], _∷_}
-use Prim.Native.Nat.{ℕ, zero, suc, _+_, _-_, _≤_, max}
+use Prim.Native.Nat.{ℕ, zero, suc, _+_, _-_, _≤_}
 use native.Mathlib.Omega.{arith}
 use lib.ListN.{length}
 use Rattle.cost.specs.Cost.{Cost}
 use Rattle.memo.specs.declared.MemoKey.{MemoKey}
 use Rattle.layout.specs.Rules.{Rules}
 use Rattle.layout.specs.Table.{Node, Empty, Break, HardLine, Text, Seq, Fill, Group, Align, Nest, Choice, Annotate, Penalty}
-use Rattle.layout.specs.Frontier.{covers}
 use Rattle.layout.specs.Frontier.{present as presented}
-use Rattle.machine.specs.Events.{Bounds, Counts, Needs, no-counts, Kind, stack, memo, kept, frontier, plans, visit, Event, Prog, ret, emit, _>>=_, say, done, run}
+use Rattle.machine.specs.Events.{Bounds, Counts, Needs, no-counts, Kind, stack, memo, kept, frontier, plans, visit, Event, Prog, emit, _>>=_, say}
 use Rattle.machine.specs.Programs.{value, value-bind}
 use Rattle.machine.specs.Enough.{asks, peak, peak-bind, In-domain, domain-first, domain-then, necessary}
 use Rattle.machine.specs.Just.{ended, answer-need}

@@ -17,7 +17,7 @@ use Rattle.machine.specs.Enough.{asked, peak}
 use Rattle.machine.specs.Just.{bare-out, needs-after, needless, stops-with, ends-with}
 use Rattle.machine.specs.PageNeeds.{no-stack, no-memo, no-kept, no-frontier, no-plans, output-need, spans-need}
 use Rattle.machine.specs.Materializer.{Rendered as Sheet, marks, materialize, rendered}
-use Rattle.machine.specs.Answer.{paged, answer-of}
+use Rattle.machine.specs.Answer.{answer-of}
 use Rattle.solve_workspace.specs.declared.Bounds.{Bounds}
 use Rattle.solve_workspace.specs.Meets.{limits, tally, needs-told}
 use Rattle.solve_workspace.specs.Rows.{low}

@@ -1,5 +1,5 @@
 -- Laws of the work ticks, and of what a popped result leaves.
-use mathlib.Core.Path.{_≡_, subst}
+use mathlib.Core.Path.{_≡_}
 use mathlib.Core.List.{List}
 use Prim.Native.Nat.{ℕ, _≤_, _<_}
 use native.Mathlib.Omega.{arith}
@@ -14,7 +14,7 @@ use Rattle.solve_workspace.specs.declared.Registers.{Registers}
 use Rattle.solve_workspace.specs.declared.Why.the-variants.{Work}
 use Rattle.solve_workspace.specs.declared.Reached.{Reached}
 use Rattle.solve_workspace.specs.declared.Reached.the-variants.{Go, Stop}
-use Rattle.solve_workspace.specs.Meets.{counts, tally, ticked, Sound, Meets}
+use Rattle.solve_workspace.specs.Meets.{counts, ticked, Sound, Meets}
 use Rattle.solve_workspace.specs.Rows.{Row, abs}
 use Rattle.solve_workspace.specs.Frames.{Popped}
 use Rattle.solve_workspace.specs.Lent.{regs, Held}
