@@ -100,8 +100,8 @@ fn word_of(id: PlanId) -> usize
     wide(id.0) + 1
 }
 
-// The greater of two numbers.
-fn greater(a: usize, b: usize) -> usize
+// The larger of two numbers.
+fn larger(a: usize, b: usize) -> usize
     ensures { λ r. ⌜ r ≡ max a b ⌝ }
 {
     if a < b {
@@ -320,8 +320,8 @@ pub fn measure(
                 return Measured::Refused(e, needed, visits);
             }
             Visited::Went(z, _) => {
-                highest = greater(highest, z.top);
-                deepest = greater(deepest, z.depth);
+                highest = larger(highest, z.top);
+                deepest = larger(deepest, z.depth);
                 w = z;
             }
         }

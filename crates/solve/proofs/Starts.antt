@@ -1,7 +1,7 @@
 -- The start of a call, whatever the working memory holds; and its end: the root's result, and the best candidate.
 use mathlib.Core.Path.{_≡_, refl, sym, ap, _∙_, subst}
 use mathlib.Core.List.{List, [], _∷_, map}
-use Prim.Native.Nat.{ℕ, zero, suc, _-_, _≤_, _<_, _^_, max}
+use Prim.Native.Nat.{ℕ, zero, suc, _-_, _≤_, _<_, _^_}
 use native.Mathlib.Omega.{arith}
 use lib.ListN.{length, getD, replicate, length-append, length-map}
 use Rattle.stats.specs.declared.SolveStats.{SolveStats}
@@ -209,7 +209,7 @@ plans-of s ts rs ps es ks fs ns = refl
 -- a popped result leaves the needs, which are told whole
 needs-same : (st s : Registers) → Popped st s → NeedsFit st → solver-needs (needs-low s) ≡ needs-in st
 needs-same st s p y =
-    rw (p .peaks, p .builder, p .kept, p .plans, low-is (st .peaks .stack) (y .stack), low-is (st .peaks .memo) (y .memo), low-is (st .kept) (y .kept), low-is (max (st .peaks .frontier) (st .builder .used)) (y .frontier), low-is (st .plans) (y .plans))
+    rw (p .peaks, p .builder, p .kept, p .plans, low-is (needs-in st .stack) (y .stack), low-is (needs-in st .memo) (y .memo), low-is (needs-in st .kept) (y .kept), low-is (needs-in st .frontier) (y .frontier), low-is (needs-in st .plans) (y .plans))
 
 pub best-is : (b : Bounds) (R : Rules) (P : Prepared) (st s : Registers) (ts rs ps es ks : List Row) (fs : List ℕ) (ns : List Row) (best : Code)
     → pop-exact-result (abs st ts rs ps es ks fs ns) ≡ ret (got (range (s .start) (s .len)) (abs s ts rs ps es ks fs ns)) → Popped st s → 1 ≤ s .len

@@ -1,7 +1,7 @@
 -- What the solver relies on: tables of an accepted file, and a state that the machine can come to.
 use mathlib.Core.Path.{_≡_}
 use mathlib.Core.List.{List, []}
-use Prim.Native.Nat.{ℕ, suc, _≤_, _<_, _^_, max}
+use Prim.Native.Nat.{ℕ, suc, _≤_, _<_, _^_}
 use lib.ListN.{length, getD}
 use Rattle.layout.specs.Document.{Doc}
 use Rattle.layout.specs.Rules.{Rules}
@@ -13,6 +13,7 @@ use Rattle.machine_right.specs.Ready.{Ready}
 use Rattle.machine_right.specs.Sound.{Inv}
 use Rattle.solve_workspace.specs.declared.Bounds.{Bounds}
 use Rattle.solve_workspace.specs.declared.Registers.{Registers}
+use Rattle.solve_workspace.specs.Meets.{needs-in}
 use Rattle.solve_workspace.specs.Rows.{Row, at}
 use Rattle.solve_workspace.specs.Reading.{prepared, tables}
 
@@ -34,11 +35,11 @@ pub record MemoRoom (b : Bounds) (ss : List ℕ) (es : List Row) : Type 0 where
 
 -- what was needed of each kind has its place in 32 bits
 pub record NeedsFit (s : Registers) : Type 0 where
-  pub stack : s .peaks .stack < 2 ^ 32
-  pub memo : s .peaks .memo < 2 ^ 32
-  pub kept : s .kept < 2 ^ 32
-  pub frontier : max (s .peaks .frontier) (s .builder .used) < 2 ^ 32
-  pub plans : s .plans < 2 ^ 32
+  pub stack : needs-in s .stack < 2 ^ 32
+  pub memo : needs-in s .memo < 2 ^ 32
+  pub kept : needs-in s .kept < 2 ^ 32
+  pub frontier : needs-in s .frontier < 2 ^ 32
+  pub plans : needs-in s .plans < 2 ^ 32
 
 -- the result on top is a range that is not empty
 pub record Topped (s : Registers) (rs ks : List Row) : Type 0 where

@@ -1,6 +1,6 @@
 -- What the answer of `solve` says, as the end of a run of the machine.
 use mathlib.Core.List.{List, [], _∷_, map}
-use Prim.Native.Nat.{ℕ, _≤_, _<_, _^_, max}
+use Prim.Native.Nat.{ℕ, _≤_, _<_, _^_}
 use lib.ListN.{length}
 use Rattle.cost.specs.Value.{value}
 use Rattle.stats.specs.declared.SolveStats.{SolveStats}
@@ -10,7 +10,7 @@ use Rattle.machine.specs.Events.{Needs, with-needs, Out, done, stop}
 use Rattle.machine.specs.Model.{Candidate, no-candidate}
 use Rattle.machine.specs.Solve.{Solved, least-key}
 use Rattle.solve_workspace.specs.declared.Registers.{Registers}
-use Rattle.solve_workspace.specs.Meets.{tally, reason}
+use Rattle.solve_workspace.specs.Meets.{tally, needs-in, reason}
 use Rattle.solve_workspace.specs.Rows.{Row, low, node-of}
 use Rattle.solve.specs.declared.SolverNeeds.{SolverNeeds}
 use Rattle.solve.specs.declared.SolvedCore.{SolvedCore}
@@ -46,7 +46,7 @@ with-nodes t n = record {
 
 -- what the solver needed, in 32 bits each
 abbrev pub needs-low : Registers → SolverNeeds
-needs-low s = record { stack = low (s .peaks .stack); memo = low (s .peaks .memo); kept = low (s .kept); frontier = low (max (s .peaks .frontier) (s .builder .used)); plans = low (s .plans) }
+needs-low s = record { stack = low (needs-in s .stack); memo = low (needs-in s .memo); kept = low (needs-in s .kept); frontier = low (needs-in s .frontier); plans = low (needs-in s .plans) }
 
 -- the first least of candidates by cost and precedence
 abbrev pub least-of : List Candidate → Candidate

@@ -136,7 +136,7 @@ fn needs_of(g: &[u64]) -> SolverNeeds
     requires { ⌜ WORDS ≤ length (now g) ⌝ }
     ensures { λ r. ⌜ r ≡ needs-low (regs (now (g .entry))) ⌝ }
 {
-    let frontier = solve_workspace::greater(g[FRONTIER_PEAK], g[USED]);
+    let frontier = avl::larger(g[FRONTIER_PEAK], g[USED]);
     SolverNeeds {
         stack: solve_workspace::narrow(g[STACK_PEAK]),
         memo: solve_workspace::narrow(g[MEMO_PEAK]),

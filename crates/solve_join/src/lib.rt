@@ -131,7 +131,7 @@ pub fn push_joined(
             }
             Joined::Put => {
                 p = p + 1;
-                most = solve_workspace::greater(most, p as u64);
+                most = frontier::larger(most, p as u64);
             }
         }
         at = at + 1;

@@ -2,7 +2,7 @@
 // An operation takes only the slices that it touches; its contract holds for whatever the others are.
 ghost use mathlib.Core.Path.{_≡_};
 ghost use mathlib.Core.List.{List, []};
-ghost use Prim.Native.Nat.{ℕ, _+_, _≤_, _<_, _%_, _^_, max};
+ghost use Prim.Native.Nat.{ℕ, _+_, _≤_, _<_, _%_, _^_};
 ghost use lib.ListN.{length, getD};
 ghost use Rattle.machine.specs.Events.{ret, Hit, Miss, number};
 ghost use Rattle.layout.specs.Rules.{Rules};
@@ -76,8 +76,8 @@ pub fn cost_model(options: RenderOptions) -> PreparedConsumerCostModel
     }
 }
 
-// The greatest size needed so far of the kinds whose stores do not only grow (document 02, change 10), of the frontier before the one at work. Kept candidates and plans only grow: of them it is how
-// many there are.
+// The greatest size needed so far of the kinds whose stores do not only grow (document 02, change 10); the frontier's is that of the ones before the one at work. Kept candidates and plans only grow:
+// of them it is how many there are.
 pub struct Peaks {
     pub stack: usize,
     pub memo: usize,
@@ -328,16 +328,6 @@ pub fn wide(number: u32) -> u64
     ensures { λ r. ⌜ (r ≡ number) × (number < 2 ^ 32) ⌝ }
 {
     number as u64
-}
-
-// The greater of two words.
-pub fn greater(a: u64, b: u64) -> u64
-    ensures { λ r. ⌜ r ≡ max a b ⌝ }
-{
-    if a < b {
-        return b;
-    }
-    a
 }
 
 // The word at `place` is n at least. It is stored only where it grows, which a peak seldom does.

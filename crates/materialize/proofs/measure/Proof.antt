@@ -83,11 +83,11 @@ returns-3 c =
 enum-known-s-2 : tie.Need-enum-known-s-2 Inv-loop μ-loop
 enum-known-s-2 c = search needs
 
-greater-requires : tie.Need-greater-requires Inv-loop μ-loop
-greater-requires c κs = search needs
+larger-requires : tie.Need-larger-requires Inv-loop μ-loop
+larger-requires c κs = search needs
 
-greater-requires-2 : tie.Need-greater-requires-2 Inv-loop μ-loop
-greater-requires-2 c κs = search needs
+larger-requires-2 : tie.Need-larger-requires-2 Inv-loop μ-loop
+larger-requires-2 c κs = search needs
 
 loop-less : tie.Need-loop-less Inv-loop μ-loop
 loop-less c =
@@ -112,7 +112,7 @@ loop-again c =
       omega (arith, l .inv .0, c .before .before .before .before .before .before .before .visit-item .kept),
       g .sound,
       λ o bytes ib. along-step (l .inv .2 o bytes ib) (turned-went (a .capacity) o P X bytes (l .visit) x (l .w) _ _ r (c .before .before .before .before .before .before .before .visit-item .ensures o bytes ib) (c .before .before .before .s2 .given .1)),
-      λ bytes ib. reaching-step (l .inv .3 bytes ib) (turned-went (a .capacity) some-around P X bytes (l .visit) x (l .w) _ _ r (c .before .before .before .before .before .before .before .visit-item .ensures some-around bytes ib) (c .before .before .before .s2 .given .1)) (c .before .greater .ensures) (c .greater2 .ensures),
+      λ bytes ib. reaching-step (l .inv .3 bytes ib) (turned-went (a .capacity) some-around P X bytes (l .visit) x (l .w) _ _ r (c .before .before .before .before .before .before .before .visit-item .ensures some-around bytes ib) (c .before .before .before .s2 .given .1)) (c .before .larger .ensures) (c .larger2 .ensures),
     )
 
 same-length-3 : tie.Need-same-length-3 Inv-loop μ-loop
@@ -140,8 +140,8 @@ measure-spec =
     same-length-2
     returns-3
     enum-known-s-2
-    greater-requires
-    greater-requires-2
+    larger-requires
+    larger-requires-2
     loop-less
     loop-again
     same-length-3

@@ -2,14 +2,14 @@ use borrow.Author.Needs.{needs}
 use Rattle.solve.proofs.needs_of.Statement.{statement}
 use Rattle.solve.proofs.needs_of.Tie as tie
 
-shared-slice-read-greater : tie.Need-shared-slice-read-greater
-shared-slice-read-greater c = search needs
+shared-slice-read-larger : tie.Need-shared-slice-read-larger
+shared-slice-read-larger c = search needs
 
-shared-slice-read-greater-2 : tie.Need-shared-slice-read-greater-2
-shared-slice-read-greater-2 c = search needs
+shared-slice-read-larger-2 : tie.Need-shared-slice-read-larger-2
+shared-slice-read-larger-2 c = search needs
 
-greater-requires : tie.Need-greater-requires
-greater-requires c κs = search needs
+larger-requires : tie.Need-larger-requires
+larger-requires c κs = search needs
 
 shared-slice-read-narrow : tie.Need-shared-slice-read-narrow
 shared-slice-read-narrow c = search needs
@@ -39,15 +39,15 @@ narrow-requires-5 : tie.Need-narrow-requires-5
 narrow-requires-5 c κs = search needs
 
 returns : tie.Need-returns
-returns c = rw (c .before .before .before .before .before .before .before .narrow .ensures, c .before .before .before .before .before .narrow2 .ensures, c .before .before .before .narrow3 .ensures, c .before .before .narrow4 .ensures, c .narrow5 .ensures, c .before .before .before .before .before .before .before .before .before .greater .ensures)
+returns c = rw (c .before .before .before .before .before .before .before .narrow .ensures, c .before .before .before .before .before .narrow2 .ensures, c .before .before .before .narrow3 .ensures, c .before .before .narrow4 .ensures, c .narrow5 .ensures, c .before .before .before .before .before .before .before .before .before .larger .ensures)
 
 pub needs-of-spec : {M : Type 1} → statement M
 needs-of-spec =
     tie.close
     (tie.spec
-    shared-slice-read-greater
-    shared-slice-read-greater-2
-    greater-requires
+    shared-slice-read-larger
+    shared-slice-read-larger-2
+    larger-requires
     shared-slice-read-narrow
     narrow-requires
     shared-slice-read-narrow-2

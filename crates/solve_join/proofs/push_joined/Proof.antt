@@ -81,8 +81,8 @@ enum-told-2 c = search needs
 add-p : tie.Need-add-p Inv-loop μ-loop
 add-p c = omega (arith, c .before .before .before .before .before .before .before .loop .inv .1 .1 .0, c .before .before .before .before .before .before .before .before .before .before .before .before .pre .1 .1 .sound .stack)
 
-greater-requires : tie.Need-greater-requires Inv-loop μ-loop
-greater-requires c κs = search needs
+larger-requires : tie.Need-larger-requires Inv-loop μ-loop
+larger-requires c κs = search needs
 
 add-at : tie.Need-add-at Inv-loop μ-loop
 add-at c = omega (arith, c .before .before .before .before .before .before .before .before .loop .inv .1 .1 .1 .1 .0, c .before .before .before .before .before .before .before .before .before .before .before .before .before .fits .start .fits, c .before .before .before .before .before .before .before .before .before .before .before .before .before .fits .len .fits)
@@ -100,7 +100,7 @@ loop-again c =
     let q = ap (joined x) (c .before .enum-told2 .given .1) in
     let k = ok (w [] [] [] [] [] []) q in
     let t = c .before .before .before .before .before .before .before .loop-test .taken in
-    (c .before .before .before .before .before .before .before .before .loop .inv .0, (c .before .before .before .pending .given ∙ c .before .before .before .before .before .before .before .before .loop .inv .1 .0, (k .pending, (omega (arith, c .before .before .before .before .before .before .before .before .loop .inv .1 .1 .1 .0), (omega (arith, t, c .before .before .before .before .before .before .before .before .loop .inv .1 .1 .1 .1 .0), λ ts rs es fs ns. rw (c .greater .ensures) (onward (c .before .before .before .before .before .before .before .before .loop .inv .1 .1 .1 .1 .1 ts rs es fs ns) (joined-go _ _ _ (c .before .before .before .before .before .before .before .before .loop .at) (c .before .before .before .before .before .before .before .before .loop .left-over) (c .before .before .before .before .before .before .before .before .loop .left-over - 1) _ (omega arith) (c .before .before .before .before .before .before .candidate-at .ensures) (w ts rs es _ fs ns) q)))))))
+    (c .before .before .before .before .before .before .before .before .loop .inv .0, (c .before .before .before .pending .given ∙ c .before .before .before .before .before .before .before .before .loop .inv .1 .0, (k .pending, (omega (arith, c .before .before .before .before .before .before .before .before .loop .inv .1 .1 .1 .0), (omega (arith, t, c .before .before .before .before .before .before .before .before .loop .inv .1 .1 .1 .1 .0), λ ts rs es fs ns. rw (c .larger .ensures) (onward (c .before .before .before .before .before .before .before .before .loop .inv .1 .1 .1 .1 .1 ts rs es fs ns) (joined-go _ _ _ (c .before .before .before .before .before .before .before .before .loop .at) (c .before .before .before .before .before .before .before .before .loop .left-over) (c .before .before .before .before .before .before .before .before .loop .left-over - 1) _ (omega arith) (c .before .before .before .before .before .before .candidate-at .ensures) (w ts rs es _ fs ns) q)))))))
 
 slice-write-g-3 : tie.Need-slice-write-g-3 Inv-loop μ-loop
 slice-write-g-3 c = omega (arith, ap (λ (z : List ℕ). length z) (c .before .loop .inv .0), c .before .before .before .before .before .before .pre .1 .1 .room)
@@ -142,7 +142,7 @@ push-joined-spec =
     returns-2
     enum-told-2
     add-p
-    greater-requires
+    larger-requires
     add-at
     sub-left-over
     loop-less
