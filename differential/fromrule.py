@@ -6,9 +6,11 @@ differential/differential/src/sample.rs) by part 4, and by part 2 where the layo
     fromrule.py --page FILE .. inputs and outputs of the program `page`
     fromrule.py HEX W N P R    one file with width, newline cost, policy, rule: page, spans, cost, counts, needs at the sizes of `page`
     fromrule.py --rule ../docs/RULE.md [--page-program PATH] [--calls-program PATH]
-                               all that the page itself works out, its annex and check numbers (rulepage.py). What `page` can be
-                               asked of it is asked of the first program too, all calls with their sizes of the second (test_calls)
+                               all that the page itself works out, its annex and check numbers (rulepage.py), then the steps of part 7
+                               (LivePage). What `page` can be asked of it is asked of the first program too, all calls with their sizes
+                               of the second (test_calls)
 """
+import re
 import sys
 
 sys.setrecursionlimit(20000)
@@ -513,12 +515,16 @@ class Machine(Rule):
         return self.materialize(root) + (cost,)
 
 
+def test_setting(w, newline, policy, rule):
+    refuse_if(w == 0 or policy > 1 or rule not in (1, 2), 1)
+
+
 def answer(data, settings, sizes, limits, start=0):
     """(page, spans, cost) or (number, needed); the counts; the needs, None with a refusal."""
     w, newline, policy, rule = settings
     counts = dict.fromkeys(COUNTS, 0)
     try:
-        refuse_if(w == 0 or policy > 1 or rule not in (1, 2), 1)
+        test_setting(*settings)
         file = File(data, start)
         m = Machine(file, w, newline, policy, rule, sizes, *limits)
         counts = m.count
@@ -555,6 +561,101 @@ def program(data):
     return b'page %d %032x %d %d\n' % (counts['work'], cost[0], cost[1], len(spans)) + page + b'\n'
 
 
+# ---- part 7: live reports
+
+ROWS = 1024
+ENOUGH = [2 ** 64] * 7 + [2 ** 20] * 2, [2 ** 64, 10 ** 7]
+
+
+class Report:
+    """The setting, and of each row its file and its own page, spans and cost. A step gives its answer, as of `answer`, and the report
+    after it; none alters the report that it is taken on."""
+
+    def __init__(self, setting, rows=()):
+        test_setting(*setting)
+        self.setting, self.rows = setting, list(rows)
+
+    def whole(self):
+        """7.2: the rows' pages one below the other."""
+        pages, marks, at = [], [], 0
+        for _, (page, spans, _) in self.rows:
+            before = len(marks)
+            marks += [[a, s + at, e + at, None if up is None else up + before] for a, s, e, up in spans]
+            pages.append(page)
+            at += len(page) + 1
+        costs = [cost for _, (_, _, cost) in self.rows]
+        newlines = max(len(self.rows) - 1, 0)
+        return b'\n'.join(pages), marks, (sum(c[0] for c in costs), sum(c[1] for c in costs) + newlines * self.setting[1])
+
+    def insert(self, place, data, sizes, limits):
+        said, counts, needs = (), dict.fromkeys(COUNTS, 0), None
+        if place > len(self.rows):
+            said = 23, 0
+        elif len(self.rows) == ROWS:
+            said = 24, 0
+        else:
+            said, counts, needs = answer(data, self.setting, sizes, limits)
+        if len(said) == 2:
+            return (said, counts, None), self
+        return self.tested(self.rows[:place] + [(data, said)] + self.rows[place:], counts, needs, sizes)
+
+    def remove(self, place, sizes):
+        counts = dict.fromkeys(COUNTS, 0)
+        if place >= len(self.rows):
+            return ((23, 0), counts, None), self
+        return self.tested(self.rows[:place] + self.rows[place + 1:], counts, dict.fromkeys(SIZES, 0), sizes)
+
+    def tested(self, rows, counts, needs, sizes):
+        after, lent = Report(self.setting, rows), dict(zip(SIZES, sizes))
+        page, spans, cost = after.whole()
+        try:
+            refuse_if(cost[0] >= 2 ** 128 or cost[1] >= 2 ** 64, 26)
+            refuse_if(len(page) > lent['output'], 20, len(page))
+            refuse_if(len(spans) > lent['spans'], 21, len(spans))
+        except Refused as r:
+            return ((r.number, r.needed), counts, None), self
+        return ((page, spans, cost), counts, dict(needs, output=len(page), spans=len(spans))), after
+
+
+def taken(report, step, sizes, limits):
+    """A step is a place, and the file to insert there or None."""
+    place, data = step
+    return report.remove(place, sizes) if data is None else report.insert(place, data, sizes, limits)
+
+
+class OneDocument(File):
+    """The tables of a Seq of the rows with a HardLine between neighbours, as if it were a file. What a row's numbers name stands further
+    back by what the rows before it have; its annotations stay."""
+
+    def __init__(self, files):
+        self.nodes, self.edges, self.choices, self.texts, self.space, roots = [], [], [], [], 0, []
+        for file in files:
+            roots.append(file.root + len(self.nodes))
+            self.space = file.space + len(self.texts)
+            moved = [self.moved(n) for n in file.nodes]
+            self.edges += [k + len(self.nodes) for k in file.edges]
+            self.choices += [k + len(self.nodes) for k in file.choices]
+            self.nodes += moved
+            self.texts += file.texts
+        self.root = len(self.nodes)
+        children = [k for root in roots for k in (self.root + 1, root)][1:]
+        self.nodes += [self.made('Seq', len(self.edges), len(children)), self.made('HardLine', 0, 0)]
+        self.edges += children
+
+    @staticmethod
+    def made(kind, first, second, flat=None, start=0, length=0, skipped=0):
+        n = Node()
+        n.kind, n.first, n.second, n.flat, n.start, n.length, n.skipped = kind, first, second, flat, start, length, skipped
+        return n
+
+    def moved(self, n):
+        before = {'node': len(self.nodes), 'edge': len(self.edges), 'text': len(self.texts)}
+        first, second = {'Text': ('text', ''), 'Seq': ('edge', ''), 'Fill': ('edge', ''), 'Group': ('node', ''), 'Align': ('node', ''),
+                         'Choice': ('node', 'node'), 'Nest': ('', 'node'), 'Annotate': ('', 'node'), 'Penalty': ('', 'node')}.get(n.kind, ('', ''))
+        return self.made(n.kind, n.first + before.get(first, 0), n.second + before.get(second, 0),
+                         None if n.flat is None else n.flat + before['node'], n.start + len(self.choices), n.length, n.skipped)
+
+
 def shown(said, counts, needs):
     if len(said) == 2:
         lines = ['refused %d %d' % said]
@@ -573,12 +674,142 @@ def unhex(text):
     return b'' if text == '-' else bytes.fromhex(text)
 
 
+class LivePage:
+    """The tables of part 7, read off the page as rulepage.py reads the others, and worked out again.
+
+    A table that begins with `row`, `file` names files by letters. One that begins with `rows`, `step`, `but` has in `rows` the report
+    before the step, by letters and sections with a comma between them (`1,024 times E`: so many), in `step` the step, `insert E at 0` or
+    `remove 0`, and then the columns of pages, counts or needs; one of refusals has `no.` before these three. What is usual is as in
+    rulepage.py. A page is worked out a second time as that of the one document, by the machine and, where the layouts are few, by part 2. A
+    table that begins with `no.`, `one document`, `but` has those that the machine refuses, though the report gets its page."""
+
+    def __init__(self, name):
+        import rulepage  # which imports this file
+        self.tool, self.page = rulepage, rulepage.Page(name, None)
+        self.letters, self.rows, self.without, self.agree = {}, {}, {}, self.page.agree
+
+    def file(self, cell):
+        return self.letters[cell] if cell in self.letters else self.page.made_of(cell)
+
+    def files(self, cell):
+        out = []
+        for part in [] if cell == 'none' else cell.split(', '):
+            many = re.fullmatch(r'([\d,]+) times (.+)', part)
+            out += [self.file(many[2])] * self.tool.number(many[1]) if many else [self.file(part)]
+        return out
+
+    def given(self, but):
+        return self.tool.changed(but.replace('all sizes 0', ', '.join(name + ' 0' for name in SIZES)))
+
+    def row(self, data, setting):
+        """A file as a row: that it is solved with sizes and limits enough does not matter."""
+        key = data, tuple(setting)
+        if key not in self.rows:
+            self.rows[key] = data, answer(data, setting, *ENOUGH)[0]
+        return self.rows[key]
+
+    def read(self, cell):
+        """The report before the step; place and file, None for a removal; the files after it; sizes and limits."""
+        setting, sizes, limits = self.given(cell['but'])
+        files = self.files(cell['rows'])
+        kind, data, place = re.fullmatch(r'(insert (.+) at|remove) ([\d,]+)', cell['step']).groups()
+        place, new = self.tool.number(place), [] if kind == 'remove' else [self.file(data)]
+        after = files[:place] + new + files[place + (kind == 'remove'):]
+        return Report(setting, [self.row(data, setting) for data in files]), (place, new[0] if new else None), after, sizes, limits
+
+    def made(self, files, setting):
+        """The report of these files by insertions, the last row first, each with just its needs as sizes."""
+        report = Report(setting)
+        for data in reversed(files):
+            (_, _, needs), _ = report.insert(0, data, *ENOUGH)
+            _, report = report.insert(0, data, list(needs.values()), ENOUGH[1])
+        return report
+
+    def document(self, where, files, setting, said):
+        """The one document gets the same page; or it is refused as the page says or, where the step is refused by 11, 25 or 26, by that."""
+        one = OneDocument([File(data) for data in files])
+        try:
+            worked = Machine(one, *setting, ENOUGH[0], *ENOUGH[1]).render()
+        except Refused as r:
+            worked = r.number
+        self.agree('one documents', where, self.without.get((tuple(files), tuple(setting)), said), worked)
+        try:
+            if worked == said and said not in (11, 25, 26):
+                self.agree('of these by part 2 too', where, said, Rule(one, *setting).page())
+        except Many:
+            pass
+
+    def results(self, where, cell):
+        report, step, files, sizes, limits = self.read(cell)
+        (said, counts, needs), after = taken(report, step, sizes, limits)
+        if 'work' in cell:
+            self.agree('counts', where, [self.tool.number(cell[name]) for name in self.tool.SHOWN], [counts[name] for name in self.tool.SHOWN])
+        if 'page' in cell:
+            cost = self.tool.number(cell['overflow']), self.tool.number(cell['burden'])
+            page = b'' if cell['page'] == 'no bytes' else self.page.made_of(cell['page'])
+            self.agree('pages', where, (page, self.tool.spans_in(cell['spans']), cost), said)
+            self.document(where, files, report.setting, said)
+            self.agree('reports made otherwise', where, said, self.made(files, report.setting).whole())
+            if needs:
+                place, data = step
+                (again, _, _), before = taken(after, (place, report.rows[place][0] if data is None else None), *ENOUGH)
+                self.agree('steps taken back', where, (report.whole(), report.rows), (again, before.rows))
+        if 'stack' in cell:
+            self.agree('needs', where, [self.tool.number(cell[name]) for name in SIZES], needs and list(needs.values()))
+            if needs:
+                self.suffice(where, report, step, limits, (said, counts, needs))
+
+    def suffice(self, where, report, step, limits, said):
+        """A step's needs: lent just these, the same comes; with one of them one less, or 0, that kind's refusal."""
+        needs = list(said[2].values())
+        self.agree('steps at the needs', where, said, taken(report, step, needs, limits)[0])
+        for kind, need in enumerate(needs):
+            for size in sorted({need - 1, 0} if need else set()):
+                (refused, _, _), after = taken(report, step, needs[:kind] + [size] + needs[kind + 1:], limits)
+                own = len(refused) == 2 and refused[0] == 13 + kind and size < refused[1] <= need and after is report
+                self.agree('steps with one size smaller', '%s, %s %d' % (where, SIZES[kind], size), own, True)
+
+    def refusals(self, where, cell):
+        report, step, files, sizes, limits = self.read(cell)
+        (said, counts, _), after = taken(report, step, sizes, limits)
+        told = [self.tool.number(cell[name]) for name in ['no.', 'needed'] + self.tool.SHOWN]
+        self.agree('refusals', where, told, list(said[:2]) + [counts[name] for name in self.tool.SHOWN])
+        self.agree('reports as they were', where, after is report, True)
+        if said[0] in (11, 25, 26):
+            self.document(where, files, report.setting, said[0])
+        elif said[0] in (20, 21):
+            self.document(where, files, report.setting, taken(report, step, *ENOUGH)[0][0])
+
+    def cells(self, *head):
+        """The rows of the tables that begin so, with where they stand."""
+        for section, _, names, rows in self.page.tables:
+            for row in rows if names[:len(head)] == list(head) else []:
+                yield '%s: %s' % (section, row), dict(zip(names, row))
+
+    def whole(self):
+        for _, cell in self.cells('row', 'file'):
+            self.letters[cell['row']] = self.page.made_of(cell['file'])
+        for _, cell in self.cells('no.', 'one document', 'but'):
+            setting, _, _ = self.given(cell['but'])
+            self.without[tuple(self.files(cell['one document'])), tuple(setting)] = self.tool.number(cell['no.'])
+        for where, cell in self.cells('rows', 'step', 'but'):
+            self.results(where, cell)
+        for where, cell in self.cells('no.', 'rows', 'step', 'but'):
+            self.refusals(where, cell)
+        for line in self.page.different:
+            print(line)
+        said = ['live reports'] + ['%d %s' % (number, what) for what, number in self.page.done.items()]
+        print('; '.join(said) + ': %d different' % len(self.page.different))
+        return 1 if self.page.different else 0
+
+
 def main(arguments):
     if arguments[0] == '--rule':
         sys.dont_write_bytecode = True
         import rulepage
         named = dict(zip(arguments[2::2], arguments[3::2]))
-        sys.exit(rulepage.main(arguments[1], named.get('--page-program'), named.get('--calls-program')))
+        different = rulepage.main(arguments[1], named.get('--page-program'), named.get('--calls-program'))
+        sys.exit(LivePage(arguments[1]).whole() or different)
     if arguments[0] == '--page':
         done = wrong = 0
         for name in arguments[1:]:

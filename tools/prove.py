@@ -5,14 +5,14 @@
   prove.py stub NAME           rt dev NAME, and write each offered proof file that does not exist yet
   prove.py paths NAME FN [NEED]  for each need of FN, the places on the way to it with their distance:
                                '3:loop' is `c .before .before .before .loop`. With NEED, one place a line
-  prove.py at NAME FN          in FN's Proof.antt, replace each @THING in a need's answer by the path to that place:
-                               '@step .ensures' becomes 'c .before .before .step .ensures'
+  prove.py at NAME FN ..       in each FN's Proof.antt, replace each @THING in a need's answer by the path to that place:
+                               '@step .ensures' becomes 'c .before .before .step .ensures'. One run of rt dev serves all
   prove.py again NAME FN       after a change of FN's code: each path that stands in its Proof.antt is taken as the
                                place that it ends at, and written again with the distance that it has now
   prove.py put FILE            write standard input to FILE, with ~3 expanded to ' .before .before .before'
   prove.py size                lines of code, contracts, specs and proofs for each listed crate
 """
-import glob, os, re, shutil, subprocess, sys, tempfile
+import atexit, glob, os, re, shutil, subprocess, sys, tempfile
 
 def rt_dev(name, words=()):
     got = subprocess.run(['rt', 'dev', name, *words], stdout=subprocess.PIPE, stderr=subprocess.STDOUT, text=True)
@@ -58,19 +58,23 @@ def stub(name):
             print('wrote', path, sum(l.rstrip().endswith('= ?') for l in body), 'holes')
     return 0
 
+rooms = {}  # the generated files of a crate, made once a run
+
+def generated(name):
+    if name not in rooms:
+        rooms[name] = tempfile.mkdtemp()
+        atexit.register(shutil.rmtree, rooms[name])
+        rt_dev(name, ('--generated', rooms[name]))
+    return rooms[name]
+
 def places(name, fn):
     """For each need of fn, the list of (distance, field, its own fields) on the way to it."""
-    room = tempfile.mkdtemp()
-    try:
-        rt_dev(name, ('--generated', room))
-        last = fn.split('::')[-1]
-        files = [p for p in glob.glob(room + '/**/Lts*.antt', recursive=True)
-                 if p.endswith('/%s/Lts.antt' % last) or p.endswith('/Lts-%s.antt' % last)]
-        if not files:
-            sys.exit('no places for ' + fn)
-        text = open(files[0]).read()
-    finally:
-        shutil.rmtree(room)
+    last = fn.split('::')[-1]
+    files = [p for p in glob.glob(generated(name) + '/**/Lts*.antt', recursive=True)
+             if p.endswith('/%s/Lts.antt' % last) or p.endswith('/Lts-%s.antt' % last)]
+    if not files:
+        sys.exit('no places for ' + fn)
+    text = open(files[0]).read()
     fields = {}
     for m in re.finditer(r'^ *pub record (\S+).*?where\n((?: +(?:pub )?\S+ : .*\n|[ ]{10,}.*\n)*)', text, re.M):
         fields[m.group(1)] = re.findall(r'^ +pub (\S+) : (\S+)', m.group(2), re.M)
@@ -105,7 +109,12 @@ def proof_files(name, fn):
         sys.exit('no Proof.antt for ' + fn)
     return files
 
-def at(name, fn):
+def at(name, *fns):
+    for fn in fns:
+        put_paths(name, fn)
+    return 0
+
+def put_paths(name, fn):
     files = proof_files(name, fn)
     ways, text = places(name, fn), open(files[0]).read()
     def clause(m):
@@ -120,7 +129,6 @@ def at(name, fn):
     text = re.sub(r'^([\w-]+) (?:t )?c(?: κs)? =.*\n(?:[ ]+.*\n)*', clause, text, flags=re.M)
     open(files[0], 'w').write(text)
     print('wrote', files[0])
-    return 0
 
 def again(name, fn):
     for path in proof_files(name, fn):

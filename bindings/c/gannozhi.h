@@ -1,9 +1,9 @@
 /* A prepared file's page, by the proved library libgannozhi.a (`rt staticlib gannozhi`), on x86-64.
  *
  * Every slice is a pointer and a number of items. A pointer is never null, also where there are no items, and is aligned for its items;
- * what is written overlaps nothing else. What lent memory holds at entry does not matter. Where a slice is too short the library refuses
- * by 1; no call has any other condition. The library allocates nothing, keeps nothing between calls, and calls nothing but memcpy and
- * memset.
+ * what is written overlaps nothing else. What lent memory holds at entry does not matter, but for the memory of a live report. Where a slice
+ * is too short the library refuses by 1; no call has any other condition. The library allocates nothing, keeps nothing between calls, and
+ * calls nothing but memcpy and memset.
  *
  * docs/MEMORY.md says what the working memory is for. */
 #ifndef GANNOZHI_H
@@ -32,7 +32,7 @@ enum {
 
 /* The words of an answer. */
 enum {
-    GANNOZHI_NUMBER,         /* of the refusal, 1 to 22, 25 or 26; 0: there is a page */
+    GANNOZHI_NUMBER,         /* of the refusal, 1 to 22, 25 or 26, of a report's step 23 or 24 too; 0: there is a page */
     GANNOZHI_NEEDED,         /* size that is needed: 13 to 21; else 0 */
     GANNOZHI_LENGTH,         /* bytes of the page, at the front of the output */
     GANNOZHI_SPAN_COUNT,     /* spans, at the front of the rows */
@@ -65,7 +65,8 @@ static inline const char *gannozhi_refusal(uint32_t number) {
         "short", "form", "limit", "surplus", "reference", "text", "space", "circle", "list", /* the file: 2 to 10 */
         "domain", "work", "stack", "memo", "kept", "frontier", "plans",                      /* the solver: 11 to 17 */
         "visit", "depth", "output", "spans", "visits",                                       /* the materializer: 18 to 22 */
-        "", "", "indent", "cost"};                                                           /* the solver again: 25 and 26 */
+        "place", "rows",                                                                     /* a report's steps: 23 and 24 */
+        "indent", "cost"};                                                                   /* the solver again: 25 and 26 */
     return number < sizeof words / sizeof *words ? words[number] : "";
 }
 
@@ -156,6 +157,90 @@ uint32_t gannozhi_write(
     const uint8_t *bytes, size_t bytes_length,
     uint8_t *out, size_t out_length,
     size_t *size);
+
+/* Live reports: rows that come and go, each a prepared file, under one setting. The page is that of one document, whose root is a Seq of the
+ * rows with a HardLine between neighbours; without rows it is empty.
+ *
+ * A report is in memory that the caller lends to each of its steps and leaves alone between them: head, table, files, pages and marks. It
+ * stands at their front, and past it anything may stand, so a report can be moved to longer slices by copying what it holds. Memory of which
+ * the head says more than 1,024 rows, or the table longer files, pages and marks than the slices are, is refused by 1 and is unaltered; on any
+ * other the answer is that of the report that it holds, whoever wrote it. */
+#define GANNOZHI_ROWS 1024
+
+/* The words of a report's head. */
+enum { GANNOZHI_ROW_COUNT, GANNOZHI_WIDTH, GANNOZHI_NEWLINE_COST, GANNOZHI_POLICY, GANNOZHI_RULE, GANNOZHI_HEAD };
+
+/* A row of the table: the bytes of its file and of its page, its spans, its cost, the rule, 0. Files, pages and marks have those of the rows one
+ * after the other, without anything in between. */
+enum {
+    GANNOZHI_ROW_FILE,
+    GANNOZHI_ROW_PAGE,
+    GANNOZHI_ROW_SPANS,
+    GANNOZHI_ROW_OVERFLOW_HIGH,
+    GANNOZHI_ROW_OVERFLOW_LOW,
+    GANNOZHI_ROW_BURDEN,
+    GANNOZHI_ROW_RULE,
+    GANNOZHI_ROW = 8
+};
+typedef uint64_t gannozhi_row[GANNOZHI_ROW];
+
+/* A span as a report keeps it: as gannozhi_span, but from its row's own first byte and first span. */
+typedef uint32_t gannozhi_mark[4];
+
+/* The head of a report without rows, under the setting: 0; or 1, where the setting is not right, and the head is unaltered. The other slices
+ * need hold nothing then. */
+uint32_t gannozhi_report_open(
+    uint32_t width, uint32_t newline_cost, uint32_t policy, uint32_t rule, uint32_t head[GANNOZHI_HEAD]);
+
+/* A file as a new row at a place, 0 to the number of rows: output and spans are then those of the whole page, and the answer tells its length,
+ * spans and cost. Each span has its row's annotation; positions and parents are the whole page's. Only the new row is solved: counts are those
+ * of a call on its file alone, and so are the needs but for output and spans, which are the whole page's.
+ *
+ * Refused in this order: 1; 23, the place is not there; 24, the report has 1,024 rows; as gannozhi_render refuses the file under the same sizes
+ * and limits; then by the whole page: 26, 20, 21, with its number of bytes or spans as the size that is needed. On a refusal the report, output
+ * and spans are unaltered, and past the page's end output and spans always are. Row output and row spans are working memory, as are the slices
+ * before them. */
+uint32_t gannozhi_report_insert(
+    size_t place, const uint8_t *file, size_t file_length,
+    const uint32_t sizes[GANNOZHI_SIZES], uint64_t work_limit, uint64_t visit_limit,
+    uint32_t head[GANNOZHI_HEAD],
+    gannozhi_row *table, size_t table_length,       /* GANNOZHI_ROWS */
+    uint8_t *files, size_t files_length,            /* bytes of all files, the new one too */
+    uint8_t *pages, size_t pages_length,            /* output */
+    gannozhi_mark *marks, size_t marks_length,      /* spans */
+    uint8_t *output, size_t output_length,          /* output */
+    gannozhi_span *spans, size_t spans_length,      /* spans */
+    uint32_t (*nodes)[8], size_t nodes_length,      /* GANNOZHI_NODES */
+    uint32_t *edges, size_t edges_length,           /* GANNOZHI_EDGES */
+    uint32_t *choices, size_t choices_length,       /* GANNOZHI_CHOICES */
+    uint32_t (*texts)[3], size_t texts_length,      /* GANNOZHI_TEXTS */
+    uint8_t *bytes, size_t bytes_length,            /* GANNOZHI_BYTES */
+    uint32_t (*tasks)[9], size_t tasks_length,      /* stack */
+    uint32_t (*results)[2], size_t results_length,  /* stack */
+    uint64_t (*pending)[7], size_t pending_length,  /* stack */
+    uint64_t *index, size_t index_length,           /* gannozhi_memo_slots(memo) */
+    uint64_t (*entries)[6], size_t entries_length,  /* memo */
+    uint64_t (*kept)[6], size_t kept_length,        /* kept */
+    uint64_t *frontier, size_t frontier_length,     /* GANNOZHI_FRONTIER_WORDS * frontier */
+    uint32_t (*plans)[3], size_t plans_length,      /* plans */
+    size_t *visit, size_t visit_length,             /* visit */
+    size_t *depth, size_t depth_length,             /* depth */
+    uint8_t *row_output, size_t row_output_length,  /* output */
+    gannozhi_span *row_spans, size_t row_spans_length, /* spans */
+    uint64_t answer[GANNOZHI_ANSWER]);
+
+/* The row at a place taken away, and the page of those left, as above. Nothing is solved: counts are 0, and so are the needs but for output and
+ * spans, the only sizes that are looked at. Refused in this order: 1; 23; 26, 20 and 21 by the whole page. */
+uint32_t gannozhi_report_remove(
+    size_t place, const uint32_t sizes[GANNOZHI_SIZES],
+    uint32_t head[GANNOZHI_HEAD],
+    gannozhi_row *table, size_t table_length,       /* GANNOZHI_ROWS */
+    uint8_t *files, size_t files_length,            /* bytes of all files */
+    uint8_t *pages, size_t pages_length,            /* output */
+    gannozhi_mark *marks, size_t marks_length,      /* spans */
+    uint8_t *output, size_t output_length,          /* output */
+    gannozhi_span *spans, size_t spans_length,      /* spans */
+    uint64_t answer[GANNOZHI_ANSWER]);
 
 #ifdef __cplusplus
 }

@@ -2,14 +2,21 @@
 //!
 //! [`Printer`] owns the memory that a call is lent. [`render_lent`], [`read_lent`] and [`write_lent`] take the caller's own slices: what they
 //! hold does not matter, and where one is too short the library refuses by 1. The library allocates nothing and keeps nothing between calls.
+//!
+//! [`Report`] is a live report: rows that come and go, each a prepared file, and their page after each step. It owns its memory and lets it
+//! grow. [`open_lent`], [`insert_lent`] and [`remove_lent`] take the caller's own slices; those of [`ReportMemory`] hold the report.
 
 mod lent;
 mod raw;
+mod report;
+mod steps;
 
 pub use lent::{
     read_lent, render_lent, render_words, told, write_lent, FileCounts, FileTables, Rendered, SolverMemory,
     TableCounts, TableMemory, Written,
 };
+pub use report::Report;
+pub use steps::{insert_lent, insert_words, open_lent, remove_lent, remove_words, ReportMemory};
 
 /// The settings of a call. A width of 0, a policy above 1 and a rule other than 1 and 2 are refused by 1.
 ///
@@ -143,7 +150,8 @@ pub fn span(row: [u64; 4]) -> Span {
     }
 }
 
-/// Why there is no page: the number of the refusal, the size that is needed (13 to 21; else 0), and the counts.
+/// Why there is no page: the number of the refusal, the size that is needed (13 to 21; else 0), and the counts. 23 and 24 are refusals of a
+/// live report's steps alone.
 #[derive(Clone, Copy, Debug, Eq, PartialEq)]
 pub struct Refusal {
     pub number: u32,
@@ -182,6 +190,8 @@ pub fn refusal(number: u32) -> &'static str {
         20 => "output",
         21 => "spans",
         22 => "visits",
+        23 => "place",
+        24 => "rows",
         25 => "indent",
         26 => "cost",
         _ => "",
@@ -278,8 +288,8 @@ impl Printer {
         read_lent(file, self.tables.lend())
     }
 
-    pub fn render(&mut self, file: &[u8], settings: &Settings, limits: &Limits) -> Result<Page<'_>, Refusal> {
-        let tables = self.tables.lend();
+    /// The memory for tables, for solver and materializer, for output and for spans.
+    fn lend(&mut self) -> (TableMemory<'_>, SolverMemory<'_>, &mut [u8], &mut [[u64; 4]]) {
         let solver = SolverMemory {
             tasks: &mut self.tasks,
             results: &mut self.results,
@@ -292,7 +302,13 @@ impl Printer {
             visit: &mut self.visit,
             depth: &mut self.depth,
         };
-        let done = render_lent(file, settings, &self.sizes, limits, tables, solver, &mut self.output, &mut self.spans)?;
+        (self.tables.lend(), solver, &mut self.output, &mut self.spans)
+    }
+
+    pub fn render(&mut self, file: &[u8], settings: &Settings, limits: &Limits) -> Result<Page<'_>, Refusal> {
+        let sizes = self.sizes;
+        let (tables, solver, output, spans) = self.lend();
+        let done = render_lent(file, settings, &sizes, limits, tables, solver, output, spans)?;
         Ok(Page {
             bytes: &self.output[..done.length],
             rows: &self.spans[..done.spans],

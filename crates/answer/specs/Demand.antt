@@ -3,6 +3,7 @@ use mathlib.Core.Path.{_≡_, refl, ap, subst}
 use mathlib.Core.List.{List}
 use Prim.Native.Nat.{ℕ, _≤_}
 use native.Mathlib.Omega.{arith}
+use lib.ListN.{length}
 use Rattle.layout.specs.Charging.{charging-lawful}
 use Rattle.file_encode.specs.Fields.{Bytes}
 use Rattle.machine.specs.Numbers.{Numbered, listed, machine-numbered}
@@ -11,9 +12,10 @@ use Rattle.machine.specs.Materializer.{Rendered}
 use Rattle.machine.specs.Answer.{Answer, paged, refused, answer}
 use Rattle.machine.specs.Balance.{Balanced, counts-in, balanced-answer}
 use Rattle.machine.specs.Larger.{Larger, larger-answer}
-use Rattle.machine.specs.Just.{just, Smaller, RefusedBy, within-answer, just-answer, less-answer}
+use Rattle.machine.specs.Just.{just, Smaller, Short, RefusedBy, within-answer, just-answer, short-answer, less-answer}
 use Rattle.machine_right.specs.Pruned.{Fair, fair-answer}
 use Rattle.machine_right.specs.FirstLeaf.{Used, used}
+use Rattle.machine_right.specs.PageSizes.{output-is, spans-are}
 use Rattle.machine_right.specs.Right.{RightPage, Right, answer-right}
 use Rattle.machine_right.specs.Right.{right-page as found-page, right-refusal as found-refusal}
 use Rattle.file_form.specs.Form.{countsOf}
@@ -90,27 +92,44 @@ module _ {lent : Type 0} {file : List ℕ} {c : Settings} {b : Bounds} {r : Rend
   laid-page (wrong-file n o m) e = let z : _≡_ {A = ℕ} 0 1 = cc in absurd (omega arith)
   laid-page (laid-out o m) e = record { ordered = o; means = m; is = e }
 
+  -- a page is an accepted file's
+  pub accepted-page : Answers lent file c b (paged r k) → Means file (Accepted (countsOf file))
+  accepted-page p = laid-page p refl .means
+
   -- what is needed was lent
   pub needs-within : Answers lent file c b (paged r k) → (x : Kind) → need-of (k .needs) x ≤ size b x
   needs-within p = let h = laid-page p refl in within-answer (rules-of c) (document-of file) b r k (h .is)
+
+  -- of output and spans, what the page has
+  pub needs-page : Answers lent file c b (paged r k) → (k .needs .output ≡ length (r .bytes)) × (k .needs .spans ≡ length (r .spans))
+  needs-page p = let h = laid-page p refl in (output-is (rules-of c) (document-of file) b r k (h .is), spans-are (rules-of c) (document-of file) b r k (h .is))
 
   -- of each kind but depth, output and spans something is needed
   pub needs-used : Bytes file → Answers lent file c b (paged r k) → Used (k .needs)
   needs-used z p = let h = laid-page p refl in used (rules-of c) (document-of file) (means-ready file z (h .means)) b r k (h .is)
 
   module _ {other : Type 0} (w : other) (p : Answers lent file c b (paged r k)) where
-    -- the same page, the same counts and needs, and no other answer
-    pub just-page : {a : Answer} → Answers other file c (just (k .needs) b) a → a ≡ paged r k
-    just-page q =
+    pub just-answered : Answers other file c (just (k .needs) b) (paged r k)
+    just-answered =
         let h = laid-page p refl in
         let same = just-answer (rules-of c) (document-of file) b r k (h .is) in
-        answers-one q (subst (λ (a : Answer). Answers other file c (just (k .needs) b) a) same (laid-out (lent-as w (h .ordered)) (h .means)))
+        subst (λ (a : Answer). Answers other file c (just (k .needs) b) a) same (laid-out (lent-as w (h .ordered)) (h .means))
+
+    -- the same page, the same counts and needs, and no other answer
+    pub just-page : {a : Answer} → Answers other file c (just (k .needs) b) a → a ≡ paged r k
+    just-page q = answers-one q just-answered
+
+    refused-so : (x : Kind) (d : Bounds) → RefusedBy x (k .needs) d (answer (rules-of c) (document-of file) d) → {a : Answer} → Answers other file c d a → RefusedBy x (k .needs) d a
+    refused-so x d own q =
+        let h = laid-page p refl in
+        subst (λ (a : Answer). RefusedBy x (k .needs) d a) (answers-one (laid-out (lent-as w (h .ordered)) (h .means)) q) own
+
+    -- less of one kind, and of everything else enough
+    pub short-refused : (x : Kind) (d : Bounds) → Short x (k .needs) b d → {a : Answer} → Answers other file c d a → RefusedBy x (k .needs) d a
+    short-refused x d s q = refused-so x d (short-answer (rules-of c) (document-of file) b r k (laid-page p refl .is) x d s) q
 
     pub less-refused : (x : Kind) (d : Bounds) → Smaller x (k .needs) b d → {a : Answer} → Answers other file c d a → RefusedBy x (k .needs) d a
-    less-refused x d s q =
-        let h = laid-page p refl in
-        let own = less-answer (rules-of c) (document-of file) b r k (h .is) x d s in
-        subst (λ (a : Answer). RefusedBy x (k .needs) d a) (answers-one (laid-out (lent-as w (h .ordered)) (h .means)) q) own
+    less-refused x d s q = refused-so x d (less-answer (rules-of c) (document-of file) b r k (laid-page p refl .is) x d s) q
 
 -- ---- the counts
 

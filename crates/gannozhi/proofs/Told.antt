@@ -12,7 +12,8 @@ use Rattle.prepare.specs.Writing.{Writes, lentTables, LentAt}
 use Rattle.render.specs.declared.page.Rendered.{Rendered}
 use Rattle.render.specs.declared.order.Lengths.{Lengths}
 use Rattle.render.specs.Call.{Rendering}
-use Rattle.gannozhi.specs.Words.{words, Answered, write-size, write-number, Wrote}
+use Rattle.call_words.specs.Words.{words}
+use Rattle.gannozhi.specs.Words.{Answered, write-size, write-number, Wrote}
 
 pub answered : (file : List ℕ) (o : RenderOptions) {b b′ : Bounds} (l : Lengths) (output₀ output : List ℕ) (rows₀ rows : List Row) (r : Rendered) {answer : List ℕ} {number : ℕ} → b ≡ b′
     → Rendering file o b l output₀ output rows₀ rows r → answer ≡ words r → number ≡ getD (words r) 0 0 → Answered file o b′ l output₀ output rows₀ rows answer number

@@ -3,6 +3,7 @@ pub mod Document
 pub mod Rules
 pub mod Layout
 pub mod Spans
+pub mod SpanWords
 pub mod Choice
 pub mod Table
 pub mod Cheapest
@@ -32,4 +33,5 @@ pub mod Answers
 pub mod ChoiceLists
 pub mod Nesting
 pub mod Rows
+pub mod Report
 pub mod Cases

@@ -210,7 +210,7 @@ kind-at depth = refl
 kind-at output = refl
 kind-at spans = refl
 
-same-kind : (x y : Kind) → index x ≡ index y → x ≡ y
+pub same-kind : (x y : Kind) → index x ≡ index y → x ≡ y
 same-kind x y e = sym (kind-at x) ∙ (ap (λ (i : ℕ). getD kinds i stack) e ∙ kind-at y)
 
 module _ {A : Type 0} (d : Bounds) (x : Kind) where
@@ -279,7 +279,7 @@ just q b = record {
   visit-limit = b .visit-limit;
 }
 
-just-size : (q : Needs) (b : Bounds) (x : Kind) → size (just q b) x ≡ need-of q x
+pub just-size : (q : Needs) (b : Bounds) (x : Kind) → size (just q b) x ≡ need-of q x
 just-size q b stack = refl
 just-size q b memo = refl
 just-size q b kept = refl
@@ -307,6 +307,16 @@ pub record Smaller (x : Kind) (q : Needs) (b d : Bounds) : Type 0 where
   pub others : (y : Kind) → (index y ≡ index x → ⊥) → size d y ≡ need-of q y
   pub work-limit-is : d .work-limit ≡ b .work-limit
   pub visit-limit-is : d .visit-limit ≡ b .visit-limit
+
+-- d has less of one kind than reported, and of everything else enough
+pub record Short (x : Kind) (q : Needs) (b d : Bounds) : Type 0 where
+  pub less : size d x < need-of q x
+  pub others : (y : Kind) → (index y ≡ index x → ⊥) → need-of q y ≤ size d y
+  pub work-limit-le : b .work-limit ≤ d .work-limit
+  pub visit-limit-le : b .visit-limit ≤ d .visit-limit
+
+short-of : {x : Kind} {q : Needs} {b d : Bounds} → Smaller x q b d → Short x q b d
+short-of s = record { less = s .less; others = λ y ne. omega (arith, s .others y ne); work-limit-le = omega (arith, s .work-limit-is); visit-limit-le = omega (arith, s .visit-limit-is) }
 
 -- counts that a run may begin with: within the limits, and nothing needed yet
 pub record Fresh (b : Bounds) (o : Counts) : Type 0 where
@@ -336,17 +346,20 @@ module _ {A : Type 0} (b : Bounds) (o : Counts) (F : Fresh b o) (m : Prog A) {k 
       let y : Holds (just (k .needs) b) o m = record { sizes = λ x. omega (arith, need-is x, just-size (k .needs) b x); works-le = z .works-le; visits-le = z .visits-le; domain = z .domain } in
       enough (just (k .needs) b) o m y ∙ sym (done-is b o m h)
 
-  pub less-run : (x : Kind) (d : Bounds) → Smaller x (k .needs) b d → Stops d x (need-of (k .needs) x) (run d o m)
-  less-run x d s =
+  pub short-run : (x : Kind) (d : Bounds) → Short x (k .needs) b d → Stops d x (need-of (k .needs) x) (run d o m)
+  short-run x d s =
       let z = held in
       let l : Lacks d x o m = record {
         others = λ y ne. omega (arith, s .others y ne, need-is y);
-        works-le = omega (arith, z .works-le, s .work-limit-is);
-        visits-le = omega (arith, z .visits-le, s .visit-limit-is);
+        works-le = omega (arith, z .works-le, s .work-limit-le);
+        visits-le = omega (arith, z .visits-le, s .visit-limit-le);
         domain = z .domain;
       } in
       let t = stops d x o m l (omega (arith, s .less, need-is x)) in
       record { at = t .at; counts = t .counts; is = t .is; more = t .more; within = omega (arith, t .within, need-is x) }
+
+  pub less-run : (x : Kind) (d : Bounds) → Smaller x (k .needs) b d → Stops d x (need-of (k .needs) x) (run d o m)
+  less-run x d s = short-run x d (short-of s)
 
 -- ---- the answer
 
@@ -380,8 +393,11 @@ module _ (R : Rules) (P : Prepared) (b : Bounds) (page : Rendered) (k : Counts) 
   unfolding answer
   just-answer = ap answer-of (just-run b no-counts fresh (render R P) ended)
 
-  pub less-answer : (x : Kind) (d : Bounds) → Smaller x (k .needs) b d → RefusedBy x (k .needs) d (answer R P d)
+  pub short-answer : (x : Kind) (d : Bounds) → Short x (k .needs) b d → RefusedBy x (k .needs) d (answer R P d)
   unfolding answer
-  less-answer x d s =
-      let t = less-run b no-counts fresh (render R P) ended x d s in
+  short-answer x d s =
+      let t = short-run b no-counts fresh (render R P) ended x d s in
       record { needed = t .at; counts = t .counts; is = ap answer-of (t .is); more = t .more; within = t .within }
+
+  pub less-answer : (x : Kind) (d : Bounds) → Smaller x (k .needs) b d → RefusedBy x (k .needs) d (answer R P d)
+  less-answer x d s = short-answer x d (short-of s)

@@ -10,5 +10,6 @@ pub mod Larger
 pub mod Enough
 pub mod Just
 pub mod PageNeeds
+pub mod Quiet
 pub mod Balance
 pub mod Cases

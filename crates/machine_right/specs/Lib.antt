@@ -26,3 +26,4 @@ pub mod Fitting
 pub mod Columns
 pub mod Domain
 pub mod FirstLeaf
+pub mod PageSizes

@@ -1,5 +1,4 @@
 pub mod Ordered
-pub mod Quiet
 pub mod Answered
 pub mod Halves
 pub mod Pages

@@ -35,7 +35,7 @@ use Rattle.render.specs.Drafts.{Half, refusal, Paged}
 use Rattle.render.specs.Call.{Laid}
 use Rattle.render.proofs.Halves.{half-map}
 use Rattle.render.proofs.Pages.{unaltered}
-use Rattle.render.proofs.Quiet.{unvisited}
+use Rattle.machine.specs.Quiet.{unvisited}
 
 -- ---- one layout of a plan
 

@@ -1,11 +1,11 @@
 -- What the answer of a call says, in the machine's words, and what stands in output and spans afterwards (document 01, "Calls").
 use mathlib.Core.Path.{_≡_}
-use mathlib.Core.Option.{Option, none, some}
 use mathlib.Core.List.{List, [], _++_, map}
-use Prim.Native.Nat.{ℕ, zero, suc, _≤_, _<_}
+use Prim.Native.Nat.{ℕ, _≤_, _<_}
 use lib.ListN.{length, take, drop, getD}
 use Rattle.cost.specs.Value.{value}
-use Rattle.layout.specs.Spans.{Span}
+-- a span as a row of words holds it
+pub use Rattle.layout.specs.SpanWords.{parent-of, span-of}
 use Rattle.machine.specs.Events.{with-needs}
 use Rattle.machine.specs.Answer.{Answer, paged, refused}
 use Rattle.stats.specs.declared.SolveStats.{SolveStats}
@@ -13,14 +13,6 @@ use Rattle.solve_workspace.specs.Meets.{tally, needs-told}
 use Rattle.materialize.specs.Rows.{Row, Fits}
 use Rattle.render.specs.declared.page.Rendered.{Rendered}
 use Rattle.render.specs.declared.page.Rendered.the-variants.{Page, Refused}
-
--- a span as a row of words holds it: annotation, start, end, and 0 for no parent or one more than the parent's number
-abbrev pub parent-of : ℕ → Option ℕ
-parent-of zero = none
-parent-of (suc k) = some k
-
-abbrev pub span-of : Row → Span
-span-of r = record { annotation = getD r 0 0; start = getD r 1 0; end = getD r 2 0; parent = parent-of (getD r 3 0) }
 
 -- the machine's answer: a page's bytes are the first of the output, its spans the first of the rows; a refusal tells no needs
 abbrev pub meant : Rendered → List ℕ → List Row → Answer

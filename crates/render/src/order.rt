@@ -26,7 +26,8 @@ pub struct Lengths {
     pub spans: usize,
 }
 
-fn options_right(o: RenderOptions) -> bool
+// Whether the settings are right.
+pub fn options_right(o: RenderOptions) -> bool
     ensures { λ r. ⌜ Told (OptionsRight o) r ⌝ }
 {
     if o.width == 0 {

@@ -195,7 +195,7 @@ impl Rule<'_> {
                 }
                 Put::Open(annotation) => {
                     let at = bytes.len() as u64;
-                    let parent = open.last().map(|index: &usize| *index as u32);
+                    let parent = open.last().map(|index: &usize| *index as u64);
                     open.push(spans.len());
                     spans.push(Span { annotation: *annotation, start: at, end: at, parent });
                 }

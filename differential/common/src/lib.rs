@@ -173,7 +173,7 @@ pub struct Span {
     pub annotation: u32,
     pub start: u64,
     pub end: u64,
-    pub parent: Option<u32>,
+    pub parent: Option<u64>,
 }
 
 #[derive(Clone, Debug, Eq, PartialEq)]

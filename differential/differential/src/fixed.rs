@@ -42,8 +42,13 @@ impl Build {
         self.node(kind::TEXT, text, 0)
     }
 
-    fn text(&mut self, text: &str) -> u32 {
+    pub fn text(&mut self, text: &str) -> u32 {
         self.wide(text, text.len() as u32)
+    }
+
+    pub fn annotated(&mut self, annotation: u32, child: u32) -> u32 {
+        self.0.annotations = self.0.annotations.max(annotation + 1);
+        self.node(kind::ANNOTATE, annotation, child)
     }
 
     pub fn list(&mut self, kind: u8, children: &[u32]) -> u32 {
@@ -52,7 +57,7 @@ impl Build {
         self.node(kind, start, children.len() as u32)
     }
 
-    fn doubled(&mut self, node: u32, times: u32) -> u32 {
+    pub fn doubled(&mut self, node: u32, times: u32) -> u32 {
         self.repeated(node, 2, times)
     }
 
@@ -290,9 +295,8 @@ pub fn cases() -> Vec<Case> {
     add("20: frontier 0", ab(), usual, Sizes { frontier: 0, ..page }, none, Refused(16, 1, Some(2)));
     let mark = || {
         let mut b = Build::new();
-        b.0.annotations = 1;
         let text = b.text("ab");
-        b.node(kind::ANNOTATE, 0, text);
+        b.annotated(0, text);
         b.file()
     };
     add("22: spans before depth", mark(), usual, Sizes { spans: 0, depth: 0, ..page }, none, Refused(21, 1, None));
@@ -512,8 +516,7 @@ pub fn cases() -> Vec<Case> {
     let choice = b.listed(a, rest, &[a, bb, empty], 1);
     // The Annotate's own frontier, which is finished later, holds 1.
     let mut over = Build(b.0.clone());
-    over.0.annotations = 1;
-    over.node(kind::ANNOTATE, 0, choice);
+    over.annotated(0, choice);
     let (held, over) = (b.file(), over.file());
     // Tasks: one for each Align on the way, and one.
     let mut b = Build::new();

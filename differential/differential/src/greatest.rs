@@ -8,7 +8,8 @@ use generate::Rng;
 
 use crate::compare::{number, Tally, LIMITS, PROBE};
 use crate::fixed::{self, Build};
-use crate::ours::library::{counts, lengths, span, told};
+use crate::memory::lengths;
+use crate::ours::library::{counts, span, told};
 
 extern "C" {
     fn mmap(at: *mut c_void, length: usize, protection: i32, flags: i32, file: i32, offset: i64) -> *mut c_void;

@@ -4,6 +4,9 @@
 //! byte away from a few, all pairs and texts.
 //! `differential pairs`: every map byte beside every kind byte.
 //! `differential texts`: all texts of up to 2 bytes, and of 3 and 4 over the bytes where the rule of texts changes.
+//! `differential reports --seed S --steps N`: random sequences of steps of live reports (`--sequence I`: the one sequence of that number
+//! again; `--stand-in`: not on the library). `reports impostors`: each impostor of the stand-in must be found. `reports dear`: rows whose costs
+//! together come past their width.
 //! `differential report --rows N --seed S`: prints the file of a report of N rows, made by prepare.rs, in hexadecimal.
 //! `differential bench`: times of ours and of the reference on the same files; `--part P --rows N --width W --times T` does one part of the
 //! work T times and prints nothing, for a count of instructions (see bench.rs).
@@ -18,11 +21,15 @@ mod exhaustive;
 mod fixed;
 #[cfg(feature = "ours")]
 mod greatest;
+mod memory;
 mod needs;
 mod ours;
 mod pairs;
+mod reports;
+mod reports_fixed;
 mod sample;
 mod shrink;
+mod standin;
 mod texts;
 
 use std::time::Instant;
@@ -49,6 +56,14 @@ fn run() -> i32 {
         Some("sample") => {
             sample::print(seed);
             return 0;
+        }
+        Some("reports") => {
+            let stand_in = arguments.iter().any(|word| word == "--stand-in");
+            return match arguments.get(1).map(String::as_str) {
+                Some("impostors") => reports::impostors(seed, value("--steps").unwrap_or(20_000)),
+                Some("dear") => reports::dear(stand_in),
+                _ => reports::run(seed, value("--steps").unwrap_or(10_000), value("--sequence"), stand_in),
+            };
         }
         Some("report") => {
             let report = generate::source::report(&mut Rng::new(seed), value("--rows").unwrap_or(200) as usize);

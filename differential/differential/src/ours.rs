@@ -1,7 +1,10 @@
-//! Our library, behind one trait. It is linked here and nowhere else: by the wrapper `../bindings/rust`, unless the feature `ours` is off.
+//! Our library, behind two traits: calls on one file, and live reports. It is linked here and nowhere else: by the wrapper `../bindings/rust`,
+//! unless the feature `ours` is off.
 
 use common::{Answer, Limits, Settings, Sizes, Tables};
 use model::file::WriteRefusal;
+
+use crate::memory::Working;
 
 pub trait Printer {
     /// The whole call on lent memory that holds anything at all: an implementation fills working memory, output, spans and the answer's words
@@ -33,6 +36,52 @@ pub trait Printer {
     fn tally(&self) -> String;
 }
 
+/// What a step of a live report is lent for more than work: the report, where its page goes, and the answer's words.
+pub struct Lent<'a> {
+    pub head: &'a mut [u32; 5],
+    pub table: &'a mut [[u64; 8]],
+    pub files: &'a mut [u8],
+    pub pages: &'a mut [u8],
+    pub marks: &'a mut [[u32; 4]],
+    pub output: &'a mut [u8],
+    pub spans: &'a mut [[u64; 4]],
+    pub answer: &'a mut [u64; 26],
+}
+
+/// What an insertion is lent besides: the working memory of a call on its row, and where that puts the row's page and spans.
+pub struct RowLent<'a> {
+    pub working: &'a mut Working,
+    pub output: &'a mut [u8],
+    pub spans: &'a mut [[u64; 4]],
+}
+
+/// The calls of a live report, as they are: each returns the answer's first word. An implementation looks after nothing; the caller does.
+pub trait Steps {
+    fn open(&mut self, settings: &Settings, head: &mut [u32; 5]) -> u32;
+
+    fn insert(
+        &mut self,
+        place: usize,
+        file: &[u8],
+        sizes: &Sizes,
+        limits: &Limits,
+        lent: Lent<'_>,
+        row: RowLent<'_>,
+    ) -> u32;
+
+    fn remove(&mut self, place: usize, sizes: &Sizes, lent: Lent<'_>) -> u32;
+}
+
+#[cfg(not(feature = "ours"))]
+pub fn steps() -> Option<Box<dyn Steps>> {
+    None
+}
+
+#[cfg(feature = "ours")]
+pub fn steps() -> Option<Box<dyn Steps>> {
+    Some(Box::new(library::Reports))
+}
+
 #[cfg(not(feature = "ours"))]
 pub fn linked() -> Option<Box<dyn Printer>> {
     None
@@ -51,112 +100,12 @@ pub mod library {
     use std::process::{Command, Output, Stdio};
 
     use common::{Answer, Counts, Limits, Node, Page, Refusal, Settings, Sizes, Span, Tables, Text};
-    use gannozhi::{FileCounts, FileTables, SolverMemory, TableMemory};
+    use gannozhi::{FileCounts, FileTables, ReportMemory, SolverMemory, TableMemory};
     use generate::Rng;
     use model::file::WriteRefusal;
 
-    /// Items before and after a lent part, which no call may touch.
-    const GUARD: usize = 4;
-
-    /// An item of lent memory.
-    trait Item: Copy + PartialEq {
-        fn made(word: &mut dyn FnMut() -> u64) -> Self;
-    }
-
-    impl Item for u8 {
-        fn made(word: &mut dyn FnMut() -> u64) -> u8 {
-            word() as u8
-        }
-    }
-
-    impl Item for u32 {
-        fn made(word: &mut dyn FnMut() -> u64) -> u32 {
-            word() as u32
-        }
-    }
-
-    impl Item for u64 {
-        fn made(word: &mut dyn FnMut() -> u64) -> u64 {
-            word()
-        }
-    }
-
-    impl Item for usize {
-        fn made(word: &mut dyn FnMut() -> u64) -> usize {
-            word() as usize
-        }
-    }
-
-    impl<T: Item, const N: usize> Item for [T; N] {
-        fn made(word: &mut dyn FnMut() -> u64) -> [T; N] {
-            std::array::from_fn(|_| T::made(word))
-        }
-    }
-
-    /// What a call finds in lent memory.
-    #[derive(Clone, Copy)]
-    enum Dirt {
-        /// What an earlier call left there: entries, plans and candidates that look right.
-        Left,
-        Zeros,
-        Ones,
-        /// Small numbers, which name something.
-        Small,
-        Words,
-    }
-
-    impl Dirt {
-        fn word(self, rng: &mut Rng) -> u64 {
-            match self {
-                Dirt::Left | Dirt::Zeros => 0,
-                Dirt::Ones => u64::MAX,
-                Dirt::Small => u64::from(rng.within(0, 9)),
-                Dirt::Words => rng.word(),
-            }
-        }
-    }
-
-    /// Memory of one kind: a part of it is lent, and what stands around the part is held to what stood there.
-    struct Store<T> {
-        all: Vec<T>,
-        length: usize,
-        guards: Vec<T>,
-    }
-
-    impl<T: Item> Store<T> {
-        fn new() -> Store<T> {
-            Store { all: Vec::new(), length: 0, guards: Vec::new() }
-        }
-
-        fn soil(&mut self, rng: &mut Rng, dirt: Dirt, length: usize) {
-            let whole = length + 2 * GUARD;
-            let mut word = || dirt.word(rng);
-            if self.all.len() < whole {
-                self.all.resize_with(whole, || T::made(&mut word));
-            }
-            self.length = length;
-            if !matches!(dirt, Dirt::Left) {
-                // Behind the front of a large store older dirt stays.
-                for item in self.all.iter_mut().take(whole).take(1_000) {
-                    *item = T::made(&mut word);
-                }
-            }
-            self.guards.clear();
-            self.guards.extend_from_slice(&self.all[..GUARD]);
-            self.guards.extend_from_slice(&self.all[GUARD + length..whole]);
-        }
-
-        fn lent(&mut self) -> &mut [T] {
-            &mut self.all[GUARD..GUARD + self.length]
-        }
-
-        fn check(&self, what: &str) {
-            let after = &self.all[GUARD + self.length..self.length + 2 * GUARD];
-            if self.all[..GUARD] != self.guards[..GUARD] || *after != self.guards[GUARD..] {
-                panic!("{what}: a call wrote outside the lent part");
-            }
-        }
-    }
+    use super::{Lent, RowLent};
+    use crate::memory::{lengths, Dirt, Item, Store, Working};
 
     pub struct Library {
         rng: Rng,
@@ -164,48 +113,9 @@ pub mod library {
         program: Option<PathBuf>,
         /// Calls with memory at the size, above it and below it; files read; files written; runs of the program, and into a full device.
         tried: [u64; 7],
-        nodes: Store<[u32; 8]>,
-        edges: Store<u32>,
-        choices: Store<u32>,
-        texts: Store<[u32; 3]>,
-        bytes: Store<u8>,
-        tasks: Store<[u32; 9]>,
-        results: Store<[u32; 2]>,
-        pending: Store<[u64; 7]>,
-        index: Store<u64>,
-        entries: Store<[u64; 6]>,
-        kept: Store<[u64; 6]>,
-        frontier: Store<u64>,
-        plans: Store<[u32; 3]>,
-        visit: Store<usize>,
-        depth: Store<usize>,
+        working: Working,
         output: Store<u8>,
         spans: Store<[u64; 4]>,
-    }
-
-    /// How long each slice must be, in the order of the fields of `Library`.
-    pub fn lengths(sizes: &Sizes) -> [usize; 17] {
-        let size = sizes.list().map(|size| size as usize);
-        let slots = gannozhi::memo_slots_for(sizes.memo);
-        [
-            4_096,
-            16_384,
-            16_384,
-            4_096,
-            65_536,
-            size[0],
-            size[0],
-            size[0],
-            slots,
-            size[1],
-            size[2],
-            size[3] * 14,
-            size[4],
-            size[5],
-            size[6],
-            size[7],
-            size[8],
-        ]
     }
 
     impl Library {
@@ -215,21 +125,7 @@ pub mod library {
                 rng: Rng::new(1),
                 program: Some(program).filter(|program| program.is_file()),
                 tried: [0; 7],
-                nodes: Store::new(),
-                edges: Store::new(),
-                choices: Store::new(),
-                texts: Store::new(),
-                bytes: Store::new(),
-                tasks: Store::new(),
-                results: Store::new(),
-                pending: Store::new(),
-                index: Store::new(),
-                entries: Store::new(),
-                kept: Store::new(),
-                frontier: Store::new(),
-                plans: Store::new(),
-                visit: Store::new(),
-                depth: Store::new(),
+                working: Working::new(),
                 output: Store::new(),
                 spans: Store::new(),
             }
@@ -237,45 +133,14 @@ pub mod library {
 
         fn soil(&mut self, lengths: [usize; 17]) {
             let rng = &mut self.rng;
-            let dirt =
-                rng.pick(&[Dirt::Left, Dirt::Left, Dirt::Left, Dirt::Zeros, Dirt::Ones, Dirt::Small, Dirt::Words]);
-            let [nodes, edges, choices, texts, bytes, tasks, results, pending, index, entries, kept, frontier, plans, visit, depth, output, spans] =
-                lengths;
-            self.nodes.soil(rng, dirt, nodes);
-            self.edges.soil(rng, dirt, edges);
-            self.choices.soil(rng, dirt, choices);
-            self.texts.soil(rng, dirt, texts);
-            self.bytes.soil(rng, dirt, bytes);
-            self.tasks.soil(rng, dirt, tasks);
-            self.results.soil(rng, dirt, results);
-            self.pending.soil(rng, dirt, pending);
-            self.index.soil(rng, dirt, index);
-            self.entries.soil(rng, dirt, entries);
-            self.kept.soil(rng, dirt, kept);
-            self.frontier.soil(rng, dirt, frontier);
-            self.plans.soil(rng, dirt, plans);
-            self.visit.soil(rng, dirt, visit);
-            self.depth.soil(rng, dirt, depth);
-            self.output.soil(rng, dirt, output);
-            self.spans.soil(rng, dirt, spans);
+            let dirt = Dirt::any(rng);
+            self.working.soil(rng, dirt, &lengths);
+            self.output.soil(rng, dirt, lengths[15]);
+            self.spans.soil(rng, dirt, lengths[16]);
         }
 
         fn check(&self) {
-            self.nodes.check("nodes");
-            self.edges.check("edges");
-            self.choices.check("choices");
-            self.texts.check("texts");
-            self.bytes.check("bytes");
-            self.tasks.check("tasks");
-            self.results.check("results");
-            self.pending.check("pending");
-            self.index.check("index");
-            self.entries.check("entries");
-            self.kept.check("kept");
-            self.frontier.check("frontier");
-            self.plans.check("plans");
-            self.visit.check("visit");
-            self.depth.check("depth");
+            self.working.check();
             self.output.check("output");
             self.spans.check("spans");
         }
@@ -292,35 +157,14 @@ pub mod library {
             let output_before = self.output.lent().to_vec();
             let spans_before = self.spans.lent().to_vec();
             let mut words = <[u64; 26]>::made(&mut || self.rng.word());
+            let (tables, solver) = lend(&mut self.working);
             let number = gannozhi::render_words(
                 file,
-                &gannozhi::Settings {
-                    width: settings.width,
-                    newline_cost: settings.newline_cost,
-                    policy: settings.policy,
-                    rule: settings.rule,
-                },
+                &set(settings),
                 &gannozhi::Sizes::of(sizes.list()),
                 &gannozhi::Limits { work: limits.work, visits: limits.visits },
-                TableMemory {
-                    nodes: self.nodes.lent(),
-                    edges: self.edges.lent(),
-                    choices: self.choices.lent(),
-                    texts: self.texts.lent(),
-                    bytes: self.bytes.lent(),
-                },
-                SolverMemory {
-                    tasks: self.tasks.lent(),
-                    results: self.results.lent(),
-                    pending: self.pending.lent(),
-                    index: self.index.lent(),
-                    entries: self.entries.lent(),
-                    kept: self.kept.lent(),
-                    frontier: self.frontier.lent(),
-                    plans: self.plans.lent(),
-                    visit: self.visit.lent(),
-                    depth: self.depth.lent(),
-                },
+                tables,
+                solver,
                 self.output.lent(),
                 self.spans.lent(),
                 &mut words,
@@ -345,6 +189,29 @@ pub mod library {
                 }),
             }
         }
+    }
+
+    fn lend(working: &mut Working) -> (TableMemory<'_>, SolverMemory<'_>) {
+        let tables = TableMemory {
+            nodes: working.nodes.lent(),
+            edges: working.edges.lent(),
+            choices: working.choices.lent(),
+            texts: working.texts.lent(),
+            bytes: working.bytes.lent(),
+        };
+        let solver = SolverMemory {
+            tasks: working.tasks.lent(),
+            results: working.results.lent(),
+            pending: working.pending.lent(),
+            index: working.index.lent(),
+            entries: working.entries.lent(),
+            kept: working.kept.lent(),
+            frontier: working.frontier.lent(),
+            plans: working.plans.lent(),
+            visit: working.visit.lent(),
+            depth: working.depth.lent(),
+        };
+        (tables, solver)
     }
 
     /// What the words say, of which each was dirty before the call: a refusal has neither page nor cost nor needs, and a need has 32 bits.
@@ -378,8 +245,50 @@ pub mod library {
             annotation: span.annotation,
             start: span.start as u64,
             end: span.end as u64,
-            parent: span.parent.map(|parent| parent as u32),
+            parent: span.parent.map(|parent| parent as u64),
         }
+    }
+
+    /// Live reports by the library.
+    pub struct Reports;
+
+    fn memory<'a>(lent: Lent<'a>) -> (ReportMemory<'a>, &'a mut [u8], &'a mut [[u64; 4]], &'a mut [u64; 26]) {
+        let Lent { head, table, files, pages, marks, output, spans, answer } = lent;
+        (ReportMemory { head, table, files, pages, marks }, output, spans, answer)
+    }
+
+    impl super::Steps for Reports {
+        fn open(&mut self, settings: &Settings, head: &mut [u32; 5]) -> u32 {
+            gannozhi::open_lent(&set(settings), head).map_or_else(|refusal| refusal.number, |()| 0)
+        }
+
+        fn insert(
+            &mut self,
+            place: usize,
+            file: &[u8],
+            sizes: &Sizes,
+            limits: &Limits,
+            lent: Lent<'_>,
+            row: RowLent<'_>,
+        ) -> u32 {
+            let (report, output, spans, answer) = memory(lent);
+            let (tables, solver) = lend(row.working);
+            let sizes = gannozhi::Sizes::of(sizes.list());
+            let limits = gannozhi::Limits { work: limits.work, visits: limits.visits };
+            gannozhi::insert_words(
+                place, file, &sizes, &limits, report, output, spans, tables, solver, row.output, row.spans, answer,
+            )
+        }
+
+        fn remove(&mut self, place: usize, sizes: &Sizes, lent: Lent<'_>) -> u32 {
+            let (report, output, spans, answer) = memory(lent);
+            gannozhi::remove_words(place, &gannozhi::Sizes::of(sizes.list()), report, output, spans, answer)
+        }
+    }
+
+    fn set(settings: &Settings) -> gannozhi::Settings {
+        let Settings { width, newline_cost, policy, rule } = *settings;
+        gannozhi::Settings { width, newline_cost, policy, rule }
     }
 
     fn ran(program: &Path, stdout: Stdio, input: &[u8]) -> Output {
@@ -415,13 +324,7 @@ pub mod library {
         fn read(&mut self, file: &[u8]) -> Option<Result<Tables, u32>> {
             self.tried[3] += 1;
             self.soil(lengths(&Sizes::of([0; 9])));
-            let lent = TableMemory {
-                nodes: self.nodes.lent(),
-                edges: self.edges.lent(),
-                choices: self.choices.lent(),
-                texts: self.texts.lent(),
-                bytes: self.bytes.lent(),
-            };
+            let (lent, _) = lend(&mut self.working);
             let read = gannozhi::read_lent(file, lent);
             self.check();
             Some(read.map(|counts| {
@@ -434,16 +337,16 @@ pub mod library {
                     choice_length: row[6],
                     skipped: row[7],
                 };
-                let bytes = &self.bytes.lent()[..counts.bytes as usize];
+                let bytes = &self.working.bytes.lent()[..counts.bytes as usize];
                 let text = |row: &[u32; 3]| Text {
                     width: row[0],
                     bytes: bytes[row[2] as usize..row[2] as usize + row[1] as usize].to_vec(),
                 };
                 Tables {
-                    nodes: self.nodes.lent()[..counts.nodes as usize].iter().map(node).collect(),
-                    edges: self.edges.lent()[..counts.edges as usize].to_vec(),
-                    choice_edges: self.choices.lent()[..counts.choices as usize].to_vec(),
-                    texts: self.texts.lent()[..counts.texts as usize].iter().map(text).collect(),
+                    nodes: self.working.nodes.lent()[..counts.nodes as usize].iter().map(node).collect(),
+                    edges: self.working.edges.lent()[..counts.edges as usize].to_vec(),
+                    choice_edges: self.working.choices.lent()[..counts.choices as usize].to_vec(),
+                    texts: self.working.texts.lent()[..counts.texts as usize].iter().map(text).collect(),
                     annotations: counts.annotations,
                     root: counts.root,
                     space: counts.space,

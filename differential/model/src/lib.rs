@@ -5,6 +5,7 @@
 pub mod file;
 mod materialize;
 mod page;
+pub mod report;
 mod solve;
 pub mod utf8;
 

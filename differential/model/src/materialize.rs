@@ -73,7 +73,7 @@ impl Walk<'_, '_> {
                 let span = self.spans.len();
                 self.run.need(21, span as u64 + 1)?;
                 let at = self.bytes.len() as u64;
-                let parent = self.open.last().map(|parent| *parent as u32);
+                let parent = self.open.last().map(|parent| *parent as u64);
                 self.spans.push(Span { annotation, start: at, end: at, parent });
                 self.run.need(19, self.open.len() as u64 + 1)?;
                 self.open.push(span);

@@ -196,7 +196,7 @@ pub fn render(document: &Document, settings: &Settings, sizes: &Sizes) -> Answer
                 annotation: span.annotation.0,
                 start: span.range.start as u64,
                 end: span.range.end as u64,
-                parent: span.parent.map(|parent| parent.index() as u32),
+                parent: span.parent.map(|parent| parent.index() as u64),
             });
             return Ok(Page {
                 bytes: rendered.text().as_bytes().to_vec(),

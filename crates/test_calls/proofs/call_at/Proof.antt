@@ -4,8 +4,8 @@ use borrow.Author.Needs.{needs}
 use Rattle.test_calls.proofs.call_at.Statement.{statement}
 use Rattle.test_calls.proofs.call_at.Tie as tie
 
-name-at-requires : tie.Need-name-at-requires
-name-at-requires c κs = search needs
+hand-on-requires : tie.Need-hand-on-requires
+hand-on-requires c κs = search needs
 
 slice-aggregate-file-at : tie.Need-slice-aggregate-file-at
 slice-aggregate-file-at c = search needs
@@ -59,7 +59,7 @@ pub call-at-spec : {M : Type 1} → statement M
 call-at-spec =
     tie.close
     (tie.spec
-    name-at-requires
+    hand-on-requires
     slice-aggregate-file-at
     file-at-requires
     slice-aggregate-numbers-at

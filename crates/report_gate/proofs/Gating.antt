@@ -1,0 +1,105 @@
+-- Laws for the tests before a step.
+use mathlib.Core.Path.{_≡_, refl, sym, ap, subst, _∙_}
+use mathlib.Core.Bool.{Bool, true, false, not}
+use mathlib.Core.List.{List}
+use Prim.Native.Nat.{ℕ, _+_, _-_, _≤_}
+use native.Mathlib.Omega.{arith}
+use lib.Dec.{leb}
+use lib.ListN.{take}
+use Rattle.file_checks.specs.Told.{Told}
+use Rattle.file_checks.specs.Tells.{tell-no, tell-le}
+use Rattle.solve_workspace.specs.declared.Bounds.{Bounds}
+use Rattle.render.specs.declared.order.Lengths.{Lengths}
+use Rattle.render.specs.Order.{OptionsRight, InOrder}
+use Rattle.report.specs.Memory.{Words, file-length, sum-of, Sound}
+use Rattle.report_rows.specs.Sums.{Totalled, Summing, sound, unsound}
+use Rattle.report_rows.specs.declared.Totals.{Totals}
+use Rattle.report_rows.specs.declared.Summed.{Summed}
+use Rattle.report_rows.specs.declared.Summed.the-variants.{Sound as Holds, Unsound}
+use Rattle.report_gate.specs.declared.Head.{Head}
+use Rattle.report_gate.specs.declared.Stores.{Stores}
+use Rattle.report_gate.specs.Heads.{options, EmptyHead}
+use Rattle.solve_workspace.specs.declared.RenderOptions.{RenderOptions}
+use Rattle.report_gate.specs.Gates.{StoresLent, FilesRoom, room, IsSound, is, InsertionLent, RemovalLent, gate-number, Gate, opens, order, place, rows}
+
+-- what three tests say
+pub gated : {lent there full : Type 0} (a b c : Bool) → Told lent a → Told there b → Told full c → Gate lent there full (gate-number a b c)
+gated false b c l t f = order (l .no refl)
+gated true false c l t f = place (l .yes refl) (t .no refl)
+gated true true true l t f = rows (l .yes refl) (t .yes refl) (f .yes refl)
+gated true true false l t f = opens (l .yes refl) (t .yes refl) (f .no refl)
+
+pub never : Told ⊥ false
+never = tell-no (λ z. z)
+
+-- what a test of `!b` says
+pub was-false : (b : Bool) → not b ≡ true → b ≡ false
+was-false true e = sym e
+was-false false e = refl
+
+pub was-true : (b : Bool) → not b ≡ false → b ≡ true
+was-true true e = refl
+was-true false e = sym e
+
+-- ---- room for a file
+
+pub no-room-unsound : {s : Summed} {file files : ℕ} → s ≡ Unsound → FilesRoom s file files → ⊥
+no-room-unsound e (room h) = let z : _≡_ {A = ℕ} 0 1 = cc in absurd (omega arith)
+
+room-in : {s : Summed} {t : Totals} {file files : ℕ} → s ≡ Holds t → FilesRoom s file files → t .files + file ≤ files
+room-in {t = t} {file = file} {files = files} e (room {t = u} h) = let q : u ≡ t = cc in subst (λ (z : Totals). z .files + file ≤ files) q h
+
+pub no-room : {s : Summed} {t : Totals} {file files : ℕ} → s ≡ Holds t → (t .files + file ≤ files → ⊥) → FilesRoom s file files → ⊥
+no-room e n h = n (room-in e h)
+
+pub room-told : {s : Summed} {t : Totals} {file files : ℕ} {b : Bool} → s ≡ Holds t → Told (t .files + file ≤ files) b → Told (FilesRoom s file files) b
+room-told {t = t} {file = file} {files = files} e h = record { yes = λ q. subst (λ (z : Summed). FilesRoom z file files) (sym e) (room (h .yes q)); no = λ q r. h .no q (room-in e r) }
+
+pub room-le : {s : Summed} {t : Totals} (file files : ℕ) → s ≡ Holds t → file ≤ files → Told (FilesRoom s file files) (leb (t .files) (files - file))
+room-le {t = t} file files e h = room-told e (tell-le (t .files) (files - file) (λ l. omega (arith, l, h)) (λ l. omega (arith, l, h)))
+
+pub sound-is : {s : Summed} {t : Totals} → s ≡ Holds t → IsSound s
+sound-is {t = t} e = subst IsSound (sym e) is
+
+pub not-sound : {s : Summed} → s ≡ Unsound → IsSound s → ⊥
+not-sound e is = let z : _≡_ {A = ℕ} 0 1 = cc in absurd (omega arith)
+
+-- ---- the whole of it
+
+pub sound-of : {n F P M : ℕ} {table : List Words} {s : Summed} → Summing n table F P M s → IsSound s → Sound n table F P M
+sound-of (sound d t) i = d
+sound-of (unsound m) i = absurd (not-sound refl i)
+
+pub unsound-of : {n F P M : ℕ} {table : List Words} {s : Summed} → Summing n table F P M s → (IsSound s → ⊥) → Sound n table F P M → ⊥
+unsound-of (sound d t) i = λ _. i is
+unsound-of (unsound m) i = m
+
+pub files-of : {n F P M : ℕ} {table : List Words} {s : Summed} {file : ℕ} → Summing n table F P M s → FilesRoom s file F → Sound n table F P M × (sum-of file-length (take n table) + file ≤ F)
+files-of (sound d t) r = (d, omega (arith, room-in refl r, t .files-are))
+files-of (unsound m) r = absurd (no-room-unsound refl r)
+
+pub no-files : {n F P M : ℕ} {table : List Words} {s : Summed} {file : ℕ} → Summing n table F P M s → (FilesRoom s file F → ⊥) → Sound n table F P M → sum-of file-length (take n table) + file ≤ F → ⊥
+no-files (sound d t) r = λ _ x. r (room (omega (arith, x, t .files-are)))
+no-files (unsound m) r = λ d _. m d
+
+-- ---- which number
+
+pub unordered : (a b c : Bool) → not a ≡ true → 1 ≡ gate-number a b c
+unordered a b c e = rw (was-false a e) refl
+
+pub not-there : (a b c : Bool) → not a ≡ false → not b ≡ true → 23 ≡ gate-number a b c
+not-there a b c e f = rw (was-true a e, was-false b f) refl
+
+pub is-full : (a b c : Bool) → not a ≡ false → not b ≡ false → c ≡ true → 24 ≡ gate-number a b c
+is-full a b c e f g = rw (was-true a e, was-true b f, g) refl
+
+pub is-open : (a b c : Bool) → not a ≡ false → not b ≡ false → c ≡ false → 0 ≡ gate-number a b c
+is-open a b c e f g = rw (was-true a e, was-true b f, g) refl
+
+-- ---- an empty report
+
+pub empty-head : (w n p r : ℕ) {o : RenderOptions} → o ≡ options (record { rows = 0; width = w; «newline_cost» = n; policy = p; rule = r }) → OptionsRight o → EmptyHead w n p r (record { rows = 0; width = w; «newline_cost» = n; policy = p; rule = r })
+empty-head w n p r e h = record { right = subst OptionsRight e h; width-is = refl; newline-cost-is = refl; policy-is = refl; rule-is = refl; empty = λ t f q m. refl }
+
+pub not-right : (w n p r : ℕ) {o : RenderOptions} → o ≡ options (record { rows = 0; width = w; «newline_cost» = n; policy = p; rule = r }) → (OptionsRight o → ⊥) → OptionsRight (record { width = w; «newline_cost» = n; policy = p; rule = r }) → ⊥
+not-right w n p r e h g = h (subst OptionsRight (sym e) g)
