@@ -1,16 +1,16 @@
 -- Document 02, change 2: a report's one document, "a Seq of the rows with a HardLine between neighbours". Its answer is its rows' answers, one below the other: page, spans and cost.
-use mathlib.Core.Path.{_≡_, refl, sym, ap, ap₂, subst, _∙_}
+use mathlib.Core.Path.{_≡_, refl, sym, ap, ap₂, _∙_}
 use mathlib.Core.Option.{Option, none, some}
 use mathlib.Core.List.{List, [], _∷_, _++_, map, append-nil, append-assoc, map-append}
-use Prim.Native.Nat.{ℕ, zero, suc, _+_, _≤_}
-use lib.ListN.{length, length-append}
+use Prim.Native.Nat.{ℕ, suc, _+_, _≤_}
+use lib.ListN.{length, length-append, length-map}
 use native.Mathlib.Omega.{arith}
 use Rattle.cost.specs.Cost.{Cost, zero-cost, add}
 use Rattle.cost.specs.Rising.{at-zero}
 use Rattle.layout.specs.Document.{Doc, empty, newline, cat}
 use Rattle.layout.specs.Rules.{Rules}
 use Rattle.layout.specs.Lawful.{Lawful}
-use Rattle.layout.specs.Layout.{Plan, blank, put, line, join, mark, fee, page, last}
+use Rattle.layout.specs.Layout.{Plan, blank, put, line, join, mark, fee, page}
 use Rattle.layout.specs.Choice.{layouts, price, chosen}
 use Rattle.layout.specs.Running.{cost-from}
 use Rattle.layout.specs.Telescope.{price-is}
@@ -101,17 +101,13 @@ up-by n (some k) = some (k + n)
 abbrev pub moved : ℕ → ℕ → Span → Span
 moved at n s = record { annotation = s .annotation; start = s .start + at; end = s .end + at; parent = up-by n (s .parent) }
 
-map-length : {A B : Type 0} (f : A → B) (l : List A) → length (map f l) ≡ length l
-map-length f [] = refl
-map-length f (x ∷ l) = ap suc (map-length f l)
-
 shift : (p : Plan) (at : ℕ) (up : Option ℕ) (n a k : ℕ) → spans-from p (at + a) (up-by k up) (n + k) ≡ map (moved a k) (spans-from p at up n)
 shift blank at up n a k = refl
 shift (put t) at up n a k = refl
 shift (line i) at up n a k = refl
 shift (join p q) at up n a k =
     let one = shift p at up n a k in
-    let len : length (spans-from p (at + a) (up-by k up) (n + k)) ≡ length (spans-from p at up n) = ap length one ∙ map-length (moved a k) (spans-from p at up n) in
+    let len : length (spans-from p (at + a) (up-by k up) (n + k)) ≡ length (spans-from p at up n) = ap length one ∙ length-map (spans-from p at up n) (moved a k) in
     let e : at + a + length (page p) ≡ at + length (page p) + a = omega arith in
     let f : n + k + length (spans-from p (at + a) (up-by k up) (n + k)) ≡ n + length (spans-from p at up n) + k = omega (arith, len) in
     ap₂ (λ (x y : List Span). x ++ y) one (ap₂ (λ (u v : ℕ). spans-from q u (up-by k up) v) e f ∙ shift q (at + length (page p)) up (n + length (spans-from p at up n)) a k)
@@ -163,7 +159,7 @@ under-spans p (q ∷ qs) =
     = ap₂ (λ (x y : List Span). x ++ y) (append-nil (spans p)) (ap₂ (λ (u v : ℕ). spans-from q u none v) a b ∙ moved-spans q (length (page p) + 1) (length (spans p))) in
     let c : length (page (join (join p (line 0)) q)) + 1 ≡ length (page p) + 1 + length (page q) + 1 = omega (arith, length-append (page p ++ (10 ∷ [])) (page q), length-append (page p) (10 ∷ [])) in
     let d : length (spans (join (join p (line 0)) q)) ≡ length (spans p) + length (spans q)
-    = ap length two ∙ length-append (spans p) (map (moved (length (page p) + 1) (length (spans p))) (spans q)) ∙ ap (λ (k : ℕ). length (spans p) + k) (map-length (moved (length (page p) + 1) (length (spans p))) (spans q)) in
+    = ap length two ∙ length-append (spans p) (map (moved (length (page p) + 1) (length (spans p))) (spans q)) ∙ ap (λ (k : ℕ). length (spans p) + k) (length-map (spans q) (moved (length (page p) + 1) (length (spans p)))) in
     under-spans (join (join p (line 0)) q) qs
     ∙ ap₂ (λ (x y : List Span). x ++ y) two (ap₂ (λ (u v : ℕ). rest-of qs u v) c d)
     ∙ append-assoc (spans p) (map (moved (length (page p) + 1) (length (spans p))) (spans q)) (rest-of qs (length (page p) + 1 + length (page q) + 1) (length (spans p) + length (spans q)))

@@ -1,12 +1,11 @@
 -- Of output and spans a page needs what it has.
 use mathlib.Core.Path.{_≡_, ap, sym, _∙_}
-use Prim.Native.Nat.{ℕ, max}
 use native.Mathlib.Omega.{arith}
 use lib.ListN.{length}
 use mathlib.Core.Option.{none}
 use Rattle.layout.specs.Rules.{Rules}
 use Rattle.layout.specs.Layout.{Plan}
-use Rattle.machine.specs.Events.{Bounds, Counts, no-counts, Kind, output, spans, need-of, Prog, ret, _>>=_, _>>_, Out, done, run}
+use Rattle.machine.specs.Events.{Bounds, Counts, no-counts, Kind, output, spans, Prog, ret, _>>_, Out, done}
 use Rattle.machine.specs.Model.{Prepared, plan-at}
 use Rattle.machine.specs.Solve.{Solved, solve}
 use Rattle.machine.specs.Materializer.{Rendered, rendered, render, materialize}

@@ -50,7 +50,8 @@ memo-room {ss = ss} {n = n} h k = record { slots = rw (length-take-le n ss (slot
 
 -- ---- the whole promise
 
-abbrev none-counted : SolveStats
+-- no counts
+abbrev pub none-counted : SolveStats
 none-counted = record {
   «work_items» = 0;
   «fit_checks» = 0;

@@ -9,7 +9,7 @@ use Rattle.machine.specs.Events.{Bounds, Counts, Needs, no-counts, with-needs, 
 use Rattle.machine.specs.Materializer.{Rendered}
 use Rattle.machine.specs.Answer.{Answer, paged, refused}
 use Rattle.answer.specs.Answer.{Answers}
-use Rattle.report.specs.Report.{Row, Report, Step, insert, remove, whole, with-row, without-row, PlaceThere, Full}
+use Rattle.report.specs.Report.{Report, Step, insert, remove, whole, with-row, without-row, PlaceThere, Full}
 
 -- the whole page's cost has its place
 pub record CostFits (c : Cost) : Type 0 where

@@ -9,10 +9,10 @@ use lib.ListN.{length}
 use Rattle.file_tables.specs.Tables.{Tables, tables}
 use Rattle.cost.specs.Cost.{Cost}
 use Rattle.machine.specs.Events.{Bounds, no-counts}
-use Rattle.machine.specs.Answer.{Answer, paged, refused}
-use Rattle.answer.specs.Answer.{Settings, Answers}
+use Rattle.machine.specs.Answer.{paged, refused}
+use Rattle.answer.specs.Answer.{Settings}
 use Rattle.answer.specs.Worked.{bytes-of, sound, texted, tried, counted, needing, worked}
-use Rattle.report.specs.Report.{Row, Report, Step, insert, remove, whole}
+use Rattle.report.specs.Report.{Row, Report, insert, remove, whole}
 use Rattle.report.specs.Answers.{CostFits, Admitted, inserted, removed, no-bytes, fits, StepAnswers, no-place, full, row-refused, tested}
 
 abbrev at-80 : Settings

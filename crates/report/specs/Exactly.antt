@@ -2,21 +2,21 @@
 use mathlib.Core.Path.{_≡_, refl, ap, ap₂}
 use mathlib.Core.Logic.{by-cases}
 use mathlib.Core.List.{List}
-use Prim.Native.Nat.{ℕ, _≤_, _<_, _^_}
+use Prim.Native.Nat.{ℕ, _^_}
 use native.Mathlib.Omega.{arith}
 use native.Mathlib.Decide.{decLt}
 use lib.ListN.{length}
 use Rattle.cost.specs.Cost.{Cost}
 use Rattle.file_encode.specs.Fields.{Bytes}
 use Rattle.machine.specs.Numbers.{listed, cost}
-use Rattle.machine.specs.Events.{Bounds, Counts, no-counts, bare}
+use Rattle.machine.specs.Events.{Bounds, Counts, no-counts}
 use Rattle.machine.specs.Materializer.{Rendered}
 use Rattle.machine.specs.Answer.{Answer, paged, refused}
 use Rattle.answer.specs.Answer.{Answers}
 use Rattle.answer.specs.Exactly.{answers-one, answered}
 use Rattle.answer.specs.Demand.{refusal-right}
-use Rattle.report.specs.Report.{Row, Report, Step, insert, remove, whole, with-row, without-row, rows-most, PlaceThere, Full}
-use Rattle.report.specs.Answers.{CostFits, Admitted, Solved, inserted, removed, page-counts, Tested, too-dear, no-bytes, no-spans, fits, StepAnswers, out-of-order, no-place, full, row-refused, tested, StepNumbered, of-a-call, place, rows}
+use Rattle.report.specs.Report.{Report, Step, insert, remove, whole, with-row, without-row, rows-most, PlaceThere, Full}
+use Rattle.report.specs.Answers.{CostFits, Admitted, Solved, inserted, removed, Tested, too-dear, no-bytes, no-spans, fits, StepAnswers, out-of-order, no-place, full, row-refused, tested, StepNumbered, of-a-call, place, rows}
 
 -- an answer with a report after it
 pub record Both : Type 0 where

@@ -1,6 +1,6 @@
 -- Where the one document itself, as a table of nodes with that Seq as its root, gets a page, it is the report's whole page (document 02, change 2: "wherever that document, with sizes and limits enough, gets a page").
 use mathlib.Core.Path.{_≡_, refl, sym, ap, ap₂, subst, _∙_}
-use mathlib.Core.Option.{some, Option·some-injective}
+use mathlib.Core.Option.{Option·some-injective}
 use mathlib.Core.List.{List, [], _∷_}
 use Prim.Native.Nat.{ℕ}
 use native.Mathlib.Omega.{arith}
@@ -22,7 +22,7 @@ use Rattle.answer.specs.Answer.{Settings, rules-of, document-of}
 use Rattle.answer.specs.Ready.{means-ready}
 use Rattle.report.specs.Report.{Row, Report, whole}
 use Rattle.report.specs.Right.{RightRows, RightReport, Documents, none, one-more}
-use Rattle.report.specs.Whole.{lawful, Laid, laid, whole-bytes, whole-marks, whole-price}
+use Rattle.report.specs.Whole.{lawful, laid, whole-bytes, whole-marks, whole-price}
 
 -- rows have one list of documents
 documents-one : (c : Settings) (rows : List Row) {ds es : List Doc} → RightRows c rows → Documents rows ds → Documents rows es → ds ≡ es

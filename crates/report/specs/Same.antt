@@ -8,19 +8,19 @@ use Rattle.layout.specs.Layout.{Plan, page}
 use Rattle.layout.specs.Spans.{spans}
 use Rattle.layout.specs.Choice.{price}
 use Rattle.layout.specs.Answers.{one-answer}
-use Rattle.machine.specs.Events.{Bounds, Counts, Kind, output, spans as spans-kind}
+use Rattle.machine.specs.Events.{Bounds, Counts, output, spans as spans-kind}
 use Rattle.machine.specs.Materializer.{Rendered, rendered}
-use Rattle.machine.specs.Answer.{Answer, paged, refused}
+use Rattle.machine.specs.Answer.{Answer, paged}
 use Rattle.machine.specs.Larger.{Larger}
 use Rattle.answer.specs.Answer.{Settings, rules-of, document-of}
 use Rattle.answer.specs.Page.{RulesPage}
 use Rattle.answer.specs.Ready.{means-ready}
 use Rattle.answer.specs.Demand.{same-page}
-use Rattle.report.specs.Report.{Row, Report, Step, insert, remove, whole, without-row, with-row}
+use Rattle.report.specs.Report.{Row, Report, Step, without-row, with-row}
 use Rattle.report.specs.Answers.{Admitted, Solved, inserted, removed, Tested, too-dear, no-bytes, no-spans, fits, StepAnswers, out-of-order, no-place, full, row-refused, tested}
 use Rattle.report.specs.Right.{RightRow, RightRows, RightReport}
 use Rattle.report.specs.Lists.{removed-again}
-use Rattle.report.specs.Exactly.{Both, both, step-one}
+use Rattle.report.specs.Exactly.{both, step-one}
 use Rattle.report.specs.Whole.{cost-right}
 
 -- ---- the same files are the same rows, whatever sizes made them

@@ -1,12 +1,11 @@
 -- Document 02, change 10, for a step: with just its needs as sizes the same page comes on the same report, and with exactly one of them smaller the refusal by that kind's own number.
-use mathlib.Core.Path.{_≡_, refl, sym, ap, ap₂, subst, _∙_}
+use mathlib.Core.Path.{_≡_, refl, sym, ap, ap₂, subst}
 use mathlib.Core.Logic.{by-cases}
-use mathlib.Core.List.{List, [], _∷_, _++_, map}
+use mathlib.Core.List.{List, [], _∷_, map}
 use Prim.Native.Nat.{ℕ, zero, suc, _+_, _≤_, _<_}
 use native.Mathlib.Omega.{arith}
 use native.Mathlib.Decide.{decLt, ℕ-discrete}
-use lib.ListN.{length, take, drop, length-append, length-map}
-use Rattle.layout.specs.Spans.{Span}
+use lib.ListN.{length, length-append, length-map}
 use Rattle.layout.specs.Report.{whole-page, lines-below, whole-spans, spans-below, moved}
 use Rattle.machine.specs.Events.{Bounds, Counts, Needs, no-counts, need-of, size, Kind, stack, memo, kept, frontier, plans, visit, depth, output, spans, number, too-small, bare}
 use Rattle.machine.specs.Enough.{index}
@@ -18,10 +17,10 @@ use Rattle.answer.specs.Answer.{Answers}
 use Rattle.answer.specs.Exactly.{answered}
 use Rattle.answer.specs.Demand.{needs-page, just-answered, short-refused, same-page}
 use Rattle.answer.specs.Demand.{needs-within as row-within}
-use Rattle.report.specs.Report.{Row, Report, Step, insert, remove, whole, stacked-pages, pages-in, bytes-of, spans-of, insert-at, with-row}
+use Rattle.report.specs.Report.{Row, Report, Step, insert, whole, pages-in, bytes-of, spans-of, insert-at, with-row}
 use Rattle.report.specs.Answers.{CostFits, Admitted, Solved, inserted, removed, page-needs, page-counts, Tested, too-dear, no-bytes, no-spans, fits, StepAnswers, row-refused, tested}
 use Rattle.report.specs.Exactly.{Both, both, step-one}
-use Rattle.report.specs.Same.{Paged, came, admitted-as, solved-larger}
+use Rattle.report.specs.Same.{Paged, came, admitted-as}
 
 -- ---- a row's page is part of the whole
 

@@ -1,6 +1,5 @@
 -- Demand 3 for steps: a right report's whole page is that of the first of the cheapest layouts of its one document, and a step leaves a right report.
 use mathlib.Core.Path.{_≡_, refl, sym, ap, ap₂, subst, _∙_}
-use mathlib.Core.Option.{some, Option·some-injective}
 use mathlib.Core.List.{List, [], _∷_, map}
 use Prim.Native.Nat.{ℕ, zero, suc, _+_, _≤_}
 use native.Mathlib.Omega.{arith}
@@ -9,26 +8,19 @@ use Rattle.cost.specs.Cost.{Cost}
 use Rattle.layout.specs.Document.{Doc}
 use Rattle.layout.specs.Layout.{Plan, page}
 use Rattle.layout.specs.Spans.{Span, spans}
-use Rattle.layout.specs.Choice.{price, chosen}
+use Rattle.layout.specs.Choice.{price}
 use Rattle.layout.specs.Charging.{charging-lawful}
-use Rattle.layout.specs.Rules.{Rules}
 use Rattle.layout.specs.Lawful.{Lawful}
 use Rattle.layout.specs.First.{chosen-cheapest}
-use Rattle.layout.specs.Table.{Reads}
-use Rattle.layout.specs.Reading.{reads-only}
 use Rattle.layout.specs.Report.{report-doc, stacked, Each, no-row, report-chosen, whole-page, stacked-page, whole-spans, stacked-spans, whole-cost, stacked-cost}
 use Rattle.layout.specs.Report.{one-more as each-more}
 use Rattle.machine.specs.Events.{Bounds, Counts}
-use Rattle.machine.specs.Model.{Prepared}
 use Rattle.machine.specs.Materializer.{Rendered}
-use Rattle.machine.specs.Answer.{Answer, paged, answer}
-use Rattle.machine_right.specs.Ready.{Ready}
-use Rattle.machine_right.specs.Right.{RightPage, Right, answer-right, right-page, right-refusal}
-use Rattle.answer.specs.Answer.{Settings, Answers, rules-of, document-of}
+use Rattle.machine.specs.Answer.{Answer, paged}
+use Rattle.answer.specs.Answer.{Settings, rules-of, document-of}
 use Rattle.answer.specs.Page.{RulesPage}
-use Rattle.answer.specs.Ready.{means-ready}
 use Rattle.answer.specs.Demand.{page-right, accepted-page}
-use Rattle.report.specs.Report.{Row, Report, Step, insert, remove, whole, stacked-pages, pages-in, bytes-of, spans-of, cost-of, insert-at, remove-at, with-row, without-row, rows-most, Full, PlaceThere}
+use Rattle.report.specs.Report.{Row, Report, Step, whole, pages-in, bytes-of, spans-of, cost-of, insert-at, remove-at, rows-most}
 use Rattle.report.specs.Answers.{Admitted, Solved, inserted, removed, Tested, too-dear, no-bytes, no-spans, fits, StepAnswers, out-of-order, no-place, full, row-refused, tested}
 use Rattle.report.specs.Right.{RightRow, RightRows, RightReport, Documents, none, one-more, WholePage}
 use Rattle.report.specs.Lists.{remove-cons, length-insert, length-remove}

@@ -1,5 +1,5 @@
 -- Laws for the tests before a step.
-use mathlib.Core.Path.{_≡_, refl, sym, ap, subst, _∙_}
+use mathlib.Core.Path.{_≡_, refl, sym, subst}
 use mathlib.Core.Bool.{Bool, true, false, not}
 use mathlib.Core.List.{List}
 use Prim.Native.Nat.{ℕ, _+_, _-_, _≤_}
@@ -8,19 +8,17 @@ use lib.Dec.{leb}
 use lib.ListN.{take}
 use Rattle.file_checks.specs.Told.{Told}
 use Rattle.file_checks.specs.Tells.{tell-no, tell-le}
-use Rattle.solve_workspace.specs.declared.Bounds.{Bounds}
-use Rattle.render.specs.declared.order.Lengths.{Lengths}
-use Rattle.render.specs.Order.{OptionsRight, InOrder}
+use Rattle.render.specs.Order.{OptionsRight}
+-- what a test of `!b` says
+pub use Rattle.render.proofs.Ordered.{was-false, was-true}
 use Rattle.report.specs.Memory.{Words, file-length, sum-of, Sound}
-use Rattle.report_rows.specs.Sums.{Totalled, Summing, sound, unsound}
+use Rattle.report_rows.specs.Sums.{Summing, sound, unsound}
 use Rattle.report_rows.specs.declared.Totals.{Totals}
 use Rattle.report_rows.specs.declared.Summed.{Summed}
 use Rattle.report_rows.specs.declared.Summed.the-variants.{Sound as Holds, Unsound}
-use Rattle.report_gate.specs.declared.Head.{Head}
-use Rattle.report_gate.specs.declared.Stores.{Stores}
 use Rattle.report_gate.specs.Heads.{options, EmptyHead}
 use Rattle.solve_workspace.specs.declared.RenderOptions.{RenderOptions}
-use Rattle.report_gate.specs.Gates.{StoresLent, FilesRoom, room, IsSound, is, InsertionLent, RemovalLent, gate-number, Gate, opens, order, place, rows}
+use Rattle.report_gate.specs.Gates.{FilesRoom, room, IsSound, is, gate-number, Gate, opens, order, place, rows}
 
 -- what three tests say
 pub gated : {lent there full : Type 0} (a b c : Bool) → Told lent a → Told there b → Told full c → Gate lent there full (gate-number a b c)
@@ -31,15 +29,6 @@ gated true true false l t f = opens (l .yes refl) (t .yes refl) (f .no refl)
 
 pub never : Told ⊥ false
 never = tell-no (λ z. z)
-
--- what a test of `!b` says
-pub was-false : (b : Bool) → not b ≡ true → b ≡ false
-was-false true e = sym e
-was-false false e = refl
-
-pub was-true : (b : Bool) → not b ≡ false → b ≡ true
-was-true true e = refl
-was-true false e = sym e
 
 -- ---- room for a file
 

@@ -9,7 +9,7 @@ use Rattle.render.specs.Order.{OptionsRight, InOrder}
 use Rattle.report.specs.Memory.{Words, file-length, sum-of, Sound}
 use Rattle.report_rows.specs.declared.Totals.{Totals}
 use Rattle.report_rows.specs.declared.Summed.{Summed}
-use Rattle.report_rows.specs.declared.Summed.the-variants.{Sound as Holds, Unsound}
+use Rattle.report_rows.specs.declared.Summed.the-variants.{Sound as Holds}
 use Rattle.report_gate.specs.declared.Head.{Head}
 use Rattle.report_gate.specs.declared.Stores.{Stores}
 use Rattle.report_gate.specs.Heads.{options}

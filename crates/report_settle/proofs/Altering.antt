@@ -1,5 +1,5 @@
 -- A row comes in, or goes: from the verdict to what is left.
-use mathlib.Core.Path.{_≡_, refl, sym, ap, ap₂, subst, _∙_}
+use mathlib.Core.Path.{_≡_, refl, sym, ap, subst, _∙_}
 use mathlib.Core.List.{List, [], _∷_, map}
 use Prim.Native.Nat.{ℕ, _+_, _-_, _≤_, _<_, _^_}
 use native.Mathlib.Omega.{arith}
@@ -9,7 +9,6 @@ use Rattle.cost.specs.Cost.{Cost}
 use Rattle.cost.specs.Value.{value}
 use Rattle.layout.specs.SpanWords.{span-of}
 use Rattle.layout.specs.Report.{whole-cost}
-use Rattle.machine.specs.Events.{no-counts, with-needs}
 use Rattle.machine.specs.Materializer.{Rendered as Page}
 use Rattle.stats.specs.declared.SolveStats.{SolveStats}
 use Rattle.solve_workspace.specs.declared.Bounds.{Bounds}
@@ -18,14 +17,12 @@ use Rattle.cost.specs.declared.ConsumerCost.{ConsumerCost}
 use Rattle.render.specs.declared.page.Rendered.{Rendered}
 use Rattle.render.specs.declared.page.Rendered.the-variants.{Page as Paged, Refused as Denied}
 use Rattle.render.specs.Rendered.{counts-of}
+use Rattle.render.proofs.Renders.{none-counted}
 use Rattle.report.specs.Report.{Row, insert-at, remove-at, pages-in}
-use Rattle.report.specs.Memory.{Words, file-length, page-length, span-count, cost-at, pages-of, rows-of, sum-of, Sound}
-use Rattle.report_rows.specs.declared.Totals.{Totals}
-use Rattle.report_rows.specs.declared.Entry.{Entry}
-use Rattle.report_rows.specs.Sums.{Totalled, EntryIs}
+use Rattle.report.specs.Memory.{Words, page-length, span-count, cost-at, rows-of, sum-of, Sound}
 use Rattle.report_rows.specs.SumLaws.{sum-remove}
 use Rattle.report_edit.specs.declared.RowPage.{RowPage}
-use Rattle.report_edit.specs.Edits.{row-in, TakingIn, TakenIn, TakingOut, TakenOut}
+use Rattle.report_edit.specs.Edits.{row-in, TakingIn, TakenIn, TakenOut}
 use Rattle.report_page.specs.Delivered.{Deliverable, Delivered}
 use Rattle.report_gate.specs.declared.Head.{Head}
 use Rattle.report_gate.specs.Gates.{StoresLent}
@@ -34,25 +31,11 @@ use Rattle.report_settle.specs.declared.Whole.{Whole}
 use Rattle.report_settle.specs.declared.Verdict.{Verdict}
 use Rattle.report_settle.specs.declared.Verdict.the-variants.{Fits, Lacks}
 use Rattle.report_settle.specs.Verdicts.{Judged, Summable, VerdictRoom, Removable, refusal-of, page-of}
-use Rattle.report_settle.specs.Settled.{stores, Settles, PageHeld, Room, Inserting, InsertionSettled, Removing, RemovalSettled, row-page, Settling, Settled}
+use Rattle.report_settle.specs.Settled.{stores, Inserting, InsertionSettled, Removing, RemovalSettled, row-page, Settling, Settled}
 use Rattle.report_settle.proofs.Wholes.{Sums, insertion-sums, removal-sums, pages-insert, pages-remove}
-use Rattle.report_settle.proofs.Settling.{Passing, passing, settles-lacks, deliverable, settles-fits, unaltered}
+use Rattle.report_settle.proofs.Settling.{passing, settles-lacks, deliverable, settles-fits, unaltered}
 
--- no counts, no needs
-abbrev pub none-counted : SolveStats
-none-counted = record {
-  «work_items» = 0;
-  «fit_checks» = 0;
-  «memo_hits» = 0;
-  «memo_misses» = 0;
-  «candidates_generated» = 0;
-  «candidates_pruned» = 0;
-  «peak_frontier» = 0;
-  «memo_entries» = 0;
-  «plan_nodes» = 0;
-  visits = 0;
-}
-
+-- no needs
 abbrev pub none-needed : Needs
 none-needed = record { stack = 0; memo = 0; kept = 0; frontier = 0; plans = 0; visit = 0; depth = 0; output = 0; spans = 0 }
 

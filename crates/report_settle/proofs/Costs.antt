@@ -1,10 +1,10 @@
 -- The cost of the whole page with a row more or less, from sums.
-use mathlib.Core.Path.{_≡_, refl, sym, ap, ap₂, subst, _∙_}
+use mathlib.Core.Path.{_≡_, sym, ap, ap₂, subst, _∙_}
 use mathlib.Core.List.{List, [], _∷_, _++_, map, append-nil}
 use Prim.Native.Nat.{ℕ, _+_, _-_, _*_, _≤_, _<_}
 use native.Mathlib.Nat.{lt-of-le-of-lt}
 use native.Mathlib.Omega.{arith}
-use lib.ListN.{length, take, drop, length-map, drop-of-length-le}
+use lib.ListN.{length, length-map, drop-of-length-le}
 use lib.Seq.{take-all}
 use Rattle.cost.specs.Cost.{Cost, add}
 use Rattle.cost.specs.Value.{value, outcome, within}
@@ -19,7 +19,7 @@ use Rattle.report.specs.Memory.{Words, cost-at}
 use Rattle.report.specs.Lists.{length-insert, length-remove, map-remove}
 use Rattle.report_rows.specs.Costs.{cost-sum, CostTold, past}
 use Rattle.report_rows.specs.WholeCost.{same-cost, cost-insert, whole-cost-is}
-use Rattle.report_rows.proofs.Costs.{Added, added, not-added}
+use Rattle.report_rows.proofs.Costs.{added, not-added}
 
 module _ (n rows place : ℕ) (t : List Words) (is : length t ≡ rows) (h : place ≤ rows) where
   with-is : (c : Cost) → whole-cost n (insert-at place (c ∷ []) (map cost-at t)) ≡ add (add (newline-at (n * (rows + 1 - 1))) c) (cost-sum (map cost-at t))

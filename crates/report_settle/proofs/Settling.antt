@@ -1,7 +1,7 @@
 -- What a step leaves, from the verdict on the whole page.
 use mathlib.Core.Path.{_≡_, refl, sym, ap, ap₂, subst, _∙_}
-use mathlib.Core.List.{List, [], _∷_, _++_, map}
-use Prim.Native.Nat.{ℕ, _+_, _-_, _≤_, _<_, _^_, _%_}
+use mathlib.Core.List.{List, _++_, map}
+use Prim.Native.Nat.{ℕ, _+_, _-_, _≤_, _<_, _^_}
 use native.Mathlib.Omega.{arith}
 use lib.ListN.{length, take, drop, take-append-drop}
 use lib.Seq.{take-at}
@@ -9,8 +9,8 @@ use Rattle.cost.specs.Cost.{Cost}
 use Rattle.cost.specs.Value.{value}
 use Rattle.layout.specs.Spans.{Span}
 use Rattle.layout.specs.SpanWords.{span-of}
-use Rattle.layout.specs.Report.{whole-page, whole-spans, whole-cost}
-use Rattle.machine.specs.Events.{Counts, no-counts, with-needs, bare}
+use Rattle.layout.specs.Report.{whole-page, whole-spans}
+use Rattle.machine.specs.Events.{Counts, with-needs, bare}
 use Rattle.machine.specs.Events.{Bounds as Limits}
 use Rattle.machine.specs.Materializer.{Rendered as Page}
 use Rattle.machine.specs.Answer.{Answer, paged, refused}
@@ -19,14 +19,12 @@ use Rattle.solve_workspace.specs.declared.Bounds.{Bounds}
 use Rattle.solve_workspace.specs.declared.Needs.{Needs}
 use Rattle.solve_workspace.specs.Meets.{limits, tally, needs-told}
 use Rattle.solve_workspace.specs.Rows.{low}
-use Rattle.render.specs.declared.page.Rendered.{Rendered}
-use Rattle.render.specs.declared.page.Rendered.the-variants.{Refused}
 use Rattle.render.specs.Rendered.{meant, Front}
 use Rattle.render.specs.Call.{settings}
-use Rattle.report.specs.Report.{Row, Report, pages-in, bytes-of, spans-of, cost-of, whole, insert-at, remove-at}
-use Rattle.report.specs.Answers.{CostFits, Tested, too-dear, no-bytes, no-spans, page-needs, page-counts}
+use Rattle.report.specs.Report.{Row, Report, pages-in, bytes-of, spans-of, whole}
+use Rattle.report.specs.Answers.{CostFits, Tested, too-dear, no-bytes, no-spans, page-counts}
 use Rattle.report.specs.Answers.{fits as all-fits}
-use Rattle.report.specs.Memory.{Words, page-length, span-count, pages-of, rows-of, sum-of, Sound}
+use Rattle.report.specs.Memory.{Words, pages-of, rows-of, Sound}
 use Rattle.report_edit.specs.RowLaws.{rows-pages}
 use Rattle.report_page.specs.Delivered.{Deliverable, Delivered}
 use Rattle.report_gate.specs.declared.Head.{Head}

@@ -1,17 +1,16 @@
 -- Cost, bytes and spans of a whole page, from the numbers in the table.
 use mathlib.Core.Path.{_≡_, refl, sym, ap, ap₂, _∙_}
 use mathlib.Core.List.{List, [], _∷_, _++_, map}
-use Prim.Native.Nat.{ℕ, suc, _+_, _-_, _≤_, _<_}
+use Prim.Native.Nat.{ℕ, _+_, _-_, _≤_, _<_}
 use native.Mathlib.Omega.{arith}
-use lib.ListN.{length, take, drop, length-append, length-drop, length-map, take-append-drop}
+use lib.ListN.{length, take, drop, length-drop, length-map, take-append-drop}
 use lib.Seq.{length-take-le}
 use Rattle.cost.specs.Cost.{Cost}
-use Rattle.layout.specs.Spans.{Span}
 use Rattle.layout.specs.SpanWords.{span-of}
 use Rattle.layout.specs.Report.{whole-page, whole-spans, whole-cost}
 use Rattle.machine.specs.Materializer.{Rendered}
 use Rattle.report.specs.Report.{Row, insert-at, remove-at, pages-in, bytes-of, spans-of, cost-of}
-use Rattle.report.specs.Memory.{Words, page-length, span-count, cost-at, page-at, pages-of, rows-of, sum-of}
+use Rattle.report.specs.Memory.{Words, page-length, span-count, cost-at, pages-of, rows-of, sum-of}
 use Rattle.report.specs.Lists.{map-insert, map-remove, length-insert, length-remove}
 use Rattle.report_edit.specs.RowLaws.{lengths, whole-page-length, whole-spans-length, rows-pages, pages-count}
 

@@ -1,6 +1,5 @@
 -- From the gate, the single call and what is settled to a step's answer.
 use mathlib.Core.Path.{_≡_, refl, sym, ap, subst, _∙_}
-use mathlib.Core.Option.{Option, none, some}
 use mathlib.Core.List.{List, [], _∷_, map}
 use Prim.Native.Nat.{ℕ, zero, suc, _≤_, _<_, _^_}
 use native.Mathlib.Omega.{arith}
@@ -8,41 +7,39 @@ use lib.ListN.{length, getD, take, length-map}
 use lib.Seq.{length-take-le, getD-take}
 use Rattle.cost.specs.declared.ConsumerCost.{ConsumerCost}
 use Rattle.file_encode.specs.Fields.{Bytes}
-use Rattle.layout.specs.Layout.{Plan, page}
+use Rattle.layout.specs.Layout.{page}
 use Rattle.layout.specs.Spans.{Span, spans}
 use Rattle.layout.specs.SpanWords.{parent-of, span-of}
 use Rattle.layout.specs.Report.{Inside, inside}
-use Rattle.machine.specs.Events.{Counts, no-counts, with-needs, output, spans as spans-kind}
+use Rattle.machine.specs.Events.{Counts, no-counts, output, spans as spans-kind}
 use Rattle.machine.specs.Events.{Bounds as Limits}
 use Rattle.machine.specs.Answer.{Answer, paged, refused}
 use Rattle.stats.specs.declared.SolveStats.{SolveStats}
 use Rattle.solve_workspace.specs.declared.Bounds.{Bounds}
 use Rattle.solve_workspace.specs.declared.Needs.{Needs}
 use Rattle.solve_workspace.specs.declared.RenderOptions.{RenderOptions}
-use Rattle.solve_workspace.specs.Meets.{limits, tally, needs-told}
-use Rattle.answer.specs.Answer.{Settings, Ordered, lent-as, Answers, out-of-order, wrong-file, laid-out}
+use Rattle.solve_workspace.specs.Meets.{limits, tally}
+use Rattle.answer.specs.Answer.{Ordered, lent-as, Answers, out-of-order, wrong-file, laid-out}
 use Rattle.answer.specs.Demand.{needs-page}
-use Rattle.answer.specs.Page.{RulesPage, Promised, right-page, right-refusal}
-use Rattle.materialize.specs.Rows.{Fits}
+use Rattle.answer.specs.Page.{Promised, right-page}
 use Rattle.render.specs.declared.page.Rendered.{Rendered}
 use Rattle.render.specs.declared.page.Rendered.the-variants.{Page, Refused}
 use Rattle.render.specs.declared.order.Lengths.{Lengths}
 use Rattle.render.specs.Order.{InOrder}
-use Rattle.render.specs.Rendered.{meant, counts-of}
+use Rattle.render.specs.Rendered.{meant}
 use Rattle.render.specs.Call.{Rendering, settings}
-use Rattle.report.specs.Report.{Report, Step, insert, remove, rows-most, PlaceThere, Full}
+use Rattle.report.specs.Report.{Report, Step, insert, remove, rows-most}
 use Rattle.report.specs.Answers.{Admitted, inserted, removed, StepAnswers, out-of-order as unordered, no-place, full, row-refused, tested}
 use Rattle.report.specs.Memory.{Words, Sound}
 use Rattle.report.specs.Exactly.{InBytes}
-use Rattle.report_store.specs.Marks.{Narrow, Small}
+use Rattle.report_store.specs.Marks.{Narrow}
 use Rattle.report_edit.specs.RowLaws.{rows-count}
 use Rattle.report_gate.specs.declared.Head.{Head}
-use Rattle.report_gate.specs.declared.Stores.{Stores}
 use Rattle.report_gate.specs.Heads.{options, held}
 use Rattle.report_gate.specs.Gates.{InsertionLent, RemovalLent, Gate, opens, order, place, rows}
 use Rattle.report_settle.specs.declared.Step.{Step as Told}
 use Rattle.report_settle.specs.Verdicts.{refusal-of}
-use Rattle.report_settle.specs.Settled.{stores, Stands, Unaltered, Settles, PageHeld, Room, row-page, Settling, Settled, Removing, RemovalSettled}
+use Rattle.report_settle.specs.Settled.{stores, Stands, Unaltered, PageHeld, Room, row-page, Settled, Removing, RemovalSettled}
 use Rattle.report_settle.proofs.Settling.{stands-refused, unaltered}
 use Rattle.report_step.specs.Stepping.{Stepping}
 use Rattle.report_step.proofs.Steps.{steps}

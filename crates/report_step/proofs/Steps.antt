@@ -1,5 +1,5 @@
 -- A step's promise, from its answer.
-use mathlib.Core.Path.{_≡_, refl, sym, ap, subst, _∙_}
+use mathlib.Core.Path.{_≡_, refl, sym, ap, subst}
 use mathlib.Core.List.{List}
 use Prim.Native.Nat.{ℕ}
 use lib.ListN.{length}
@@ -7,19 +7,18 @@ use Rattle.machine.specs.Events.{Counts}
 use Rattle.machine.specs.Events.{Bounds as Limits}
 use Rattle.machine.specs.Materializer.{Rendered as Page}
 use Rattle.machine.specs.Answer.{Answer, paged, refused}
-use Rattle.machine.specs.Just.{just}
 use Rattle.stats.specs.declared.SolveStats.{SolveStats}
 use Rattle.solve_workspace.specs.declared.Bounds.{Bounds}
-use Rattle.solve_workspace.specs.Meets.{limits, tally}
+use Rattle.solve_workspace.specs.Meets.{limits}
 use Rattle.render.specs.declared.page.Rendered.{Rendered}
 use Rattle.render.specs.declared.page.Rendered.the-variants.{Refused}
 use Rattle.render.specs.Rendered.{meant}
 use Rattle.report.specs.Report.{Report}
 use Rattle.report.specs.Report.{Step as Asked}
-use Rattle.report.specs.Answers.{StepAnswers, StepNumbered}
-use Rattle.report.specs.Right.{RightReport, WholePage}
+use Rattle.report.specs.Answers.{StepAnswers}
+use Rattle.report.specs.Right.{RightReport}
 use Rattle.report.specs.Memory.{Words, Sound}
-use Rattle.report.specs.Exactly.{InBytes, both, step-numbered, refused-keeps}
+use Rattle.report.specs.Exactly.{InBytes, step-numbered, refused-keeps}
 use Rattle.report.specs.Whole.{step-right}
 use Rattle.report.specs.Same.{same-report, only-step}
 use Rattle.report.specs.Sizes.{needs-within, just-only, less-step}
