@@ -124,6 +124,10 @@ rules-page-utf8 file c r y p =
     let w = in-document (document-of file .table) (text-of t (y .texts)) (text-of t (y .texts) (t .space)) (y .ranked) (f .document) (f .reads) (document-of file .root) in
     subst Utf8 (sym (p .bytes-are)) (page-of (f .cheapest .allowed) w)
 
+-- the rule's page of an accepted file
+pub filed-utf8 : {file : List ℕ} {c : Settings} {r : Rendered} {n : FileCounts} → Bytes file → Means file (Accepted n) → RulesPage file c r → Utf8 (r .bytes)
+filed-utf8 {file} {c} {r} z m p = rules-page-utf8 file c r (accepted-file file z m) p
+
 -- the page of every call
 pub page-utf8 : {lent : Type 0} {file : List ℕ} {c : Settings} {b : Bounds} {r : Rendered} {k : Counts} → Bytes file → Answers lent file c b (paged r k) → Utf8 (r .bytes)
 page-utf8 {file = file} {c = c} {r = r} {k = k} z a = rules-page-utf8 file c r (file-of-page r k z a refl) (page-right z a)

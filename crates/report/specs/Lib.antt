@@ -10,4 +10,5 @@ pub mod Whole
 pub mod Same
 pub mod Sizes
 pub mod OneDocument
+pub mod Filed
 pub mod Cases
