@@ -134,6 +134,20 @@ pub struct Page<'a> {
     pub needs: Sizes,
 }
 
+impl<'a> Page<'a> {
+    /// The page that stands at the front of output and spans.
+    pub(crate) fn told(done: Rendered, output: &'a [u8], spans: &'a [[u64; 4]]) -> Page<'a> {
+        Page {
+            bytes: &output[..done.length],
+            rows: &spans[..done.spans],
+            overflow: done.overflow,
+            burden: done.burden,
+            counts: done.counts,
+            needs: done.needs,
+        }
+    }
+}
+
 impl Page<'_> {
     pub fn spans(&self) -> impl ExactSizeIterator<Item = Span> + '_ {
         self.rows.iter().map(|row| span(*row))
@@ -309,14 +323,7 @@ impl Printer {
         let sizes = self.sizes;
         let (tables, solver, output, spans) = self.lend();
         let done = render_lent(file, settings, &sizes, limits, tables, solver, output, spans)?;
-        Ok(Page {
-            bytes: &self.output[..done.length],
-            rows: &self.spans[..done.spans],
-            overflow: done.overflow,
-            burden: done.burden,
-            counts: done.counts,
-            needs: done.needs,
-        })
+        Ok(Page::told(done, &self.output, &self.spans))
     }
 }
 

@@ -116,14 +116,7 @@ impl Report {
     fn told(&mut self, done: Result<Rendered, Refusal>) -> Result<Page<'_>, Refusal> {
         let done = done?;
         self.page = (done.length, done.spans);
-        Ok(Page {
-            bytes: &self.output[..done.length],
-            rows: &self.spans[..done.spans],
-            overflow: done.overflow,
-            burden: done.burden,
-            counts: done.counts,
-            needs: done.needs,
-        })
+        Ok(Page::told(done, &self.output, &self.spans))
     }
 
     /// Files for the rows there are and one more.

@@ -1,6 +1,5 @@
 -- The whole page of a right report is well-formed UTF-8, as every page is (`answer` Filed).
 use mathlib.Core.List.{List, [], _∷_, map}
-use Prim.Native.Nat.{ℕ}
 use Rattle.file_utf8.specs.Utf8.{Utf8, nothing}
 use Rattle.file_utf8.specs.Joined.{joined, newline-to}
 use Rattle.layout.specs.Report.{lines-below, whole-page}

@@ -1,10 +1,10 @@
 -- Laws of insertion and removal in lists.
 use mathlib.Core.Path.{_≡_, refl, sym, ap, ap₂, _∙_}
-use mathlib.Core.List.{List, [], _∷_, _++_, map, map-append}
+use mathlib.Core.List.{List, [], _∷_, _++_, map, map-append, append-nil}
 use Prim.Native.Nat.{ℕ, zero, suc, _+_, _≤_}
 use native.Mathlib.Omega.{arith}
-use lib.ListN.{length, take, drop, length-append, length-drop, take-append-drop}
-use lib.Seq.{length-take-le, take-nil, drop-drop, take-at, drop-at}
+use lib.ListN.{length, take, drop, length-append, length-drop, take-append-drop, drop-of-length-le}
+use lib.Seq.{length-take-le, take-nil, take-all, drop-drop, take-at, drop-at}
 use Rattle.report.specs.Report.{insert-at, remove-at}
 
 module _ {A : Type 0} where
@@ -15,6 +15,10 @@ module _ {A : Type 0} where
 
   pub remove-cons : (i n : ℕ) (x : A) (l : List A) → remove-at (suc i) n (x ∷ l) ≡ x ∷ remove-at i n l
   remove-cons i n x l = let e : suc i + n ≡ suc (i + n) = omega arith in ap (λ (k : ℕ). (x ∷ take i l) ++ drop k (x ∷ l)) e
+
+  -- there is none at that place
+  pub remove-none : (i : ℕ) (l : List A) → length l ≤ i → remove-at i 1 l ≡ l
+  remove-none i l h = ap₂ (λ (x y : List A). x ++ y) (take-all i l h) (drop-of-length-le l {i = i + 1} (omega (arith, h))) ∙ append-nil l
 
   pub length-insert : (i : ℕ) (new l : List A) → i ≤ length l → length (insert-at i new l) ≡ length new + length l
   length-insert i new l h = omega (arith, length-append (take i l) (new ++ drop i l), length-append new (drop i l), length-take-le i l h, length-drop i l)

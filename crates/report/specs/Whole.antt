@@ -23,7 +23,7 @@ use Rattle.answer.specs.Demand.{page-right, accepted-page}
 use Rattle.report.specs.Report.{Row, Report, Step, whole, pages-in, bytes-of, spans-of, cost-of, insert-at, remove-at, rows-most}
 use Rattle.report.specs.Answers.{Admitted, Solved, inserted, removed, Tested, too-dear, no-bytes, no-spans, fits, StepAnswers, out-of-order, no-place, full, row-refused, tested}
 use Rattle.report.specs.Right.{RightRow, RightRows, RightReport, Documents, none, one-more, WholePage}
-use Rattle.report.specs.Lists.{remove-cons, length-insert, length-remove}
+use Rattle.report.specs.Lists.{remove-cons, remove-none, length-insert, length-remove}
 use Rattle.report.specs.Exactly.{InBytes}
 
 -- ---- the one document's answer
@@ -97,10 +97,7 @@ right-insert c (suc i) r (x ∷ rows) h g = (g .0, right-insert c i r rows h (g 
 right-remove : (c : Settings) (i : ℕ) (rows : List Row) → RightRows c rows → RightRows c (remove-at i 1 rows)
 right-remove c zero [] g = g
 right-remove c zero (x ∷ rows) g = g .1
-right-remove c (suc i) [] g = subst (RightRows c) (gone i) tt
-  where
-    gone : (j : ℕ) → _≡_ {A = List Row} [] (remove-at (suc j) 1 [])
-    gone j = let e : suc j + 1 ≡ suc (suc j) = omega arith in rw e refl
+right-remove c (suc i) [] g = subst (RightRows c) (sym (remove-none {A = Row} (suc i) [] (omega arith))) tt
 right-remove c (suc i) (x ∷ rows) g = subst (RightRows c) (sym (remove-cons i 1 x rows)) (g .0, right-remove c i rows (g .1))
 
 -- the empty report is right, whatever its settings

@@ -1,16 +1,14 @@
 -- Laws of the rows that memory holds: their pages, how many they are, how long the whole page is.
-use mathlib.Core.Path.{_≡_, refl, ap, _∙_}
+use mathlib.Core.Path.{_≡_, refl, ap}
 use mathlib.Core.List.{List, [], _∷_, map}
-use Prim.Native.Nat.{ℕ, suc, _+_, _-_, _≤_}
+use Prim.Native.Nat.{ℕ, suc, _+_, _-_}
 use native.Mathlib.Omega.{arith}
-use lib.ListN.{length, take, drop, length-append, length-drop, length-map}
-use lib.Seq.{length-take-le}
+use lib.ListN.{length, drop, length-append, length-map}
 use Rattle.layout.specs.Spans.{Span}
-use Rattle.layout.specs.SpanWords.{span-of}
 use Rattle.layout.specs.Report.{lines-below, whole-page, spans-below, whole-spans, moved}
 use Rattle.machine.specs.Materializer.{Rendered}
-use Rattle.report.specs.Report.{pages-in, bytes-of, spans-of}
-use Rattle.report.specs.Memory.{Words, file-length, page-length, span-count, page-at, pages-of, rows-of, sum-of}
+use Rattle.report.specs.Report.{pages-in}
+use Rattle.report.specs.Memory.{Words, file-length, page-length, span-count, page-at, pages-of, rows-of}
 
 pub rows-pages : (t : List Words) (files pages : List ℕ) (marks : List Words) → pages-in (rows-of t files pages marks) ≡ pages-of t pages marks
 rows-pages [] files pages marks = refl
@@ -53,30 +51,3 @@ below-length at n (b ∷ bs) (s ∷ ss) h =
 
 pub whole-spans-length : (bs : List (List ℕ)) (ss : List (List Span)) → length bs ≡ length ss → length (whole-spans bs ss) ≡ lengths ss
 whole-spans-length bs ss h = below-length 0 0 bs ss h
-
-bytes-length : (t : List Words) (pages : List ℕ) (marks : List Words) → sum-of page-length t ≤ length pages → lengths (map bytes-of (pages-of t pages marks)) ≡ sum-of page-length t
-unfolding lengths sum-of
-bytes-length [] pages marks h = refl
-bytes-length (w ∷ t) pages marks h =
-    let rest = bytes-length t (drop (page-length w) pages) (drop (span-count w) marks) (omega (arith, h, length-drop (page-length w) pages)) in
-    omega (arith, rest, length-take-le (page-length w) pages (omega (arith, h)))
-
-spans-length : (t : List Words) (pages : List ℕ) (marks : List Words) → sum-of span-count t ≤ length marks → lengths (map spans-of (pages-of t pages marks)) ≡ sum-of span-count t
-unfolding lengths sum-of
-spans-length [] pages marks h = refl
-spans-length (w ∷ t) pages marks h =
-    let rest = spans-length t (drop (page-length w) pages) (drop (span-count w) marks) (omega (arith, h, length-drop (span-count w) marks)) in
-    omega (arith, rest, length-map (take (span-count w) marks) span-of, length-take-le (span-count w) marks (omega (arith, h)))
-
-module _ (t : List Words) (pages : List ℕ) (marks : List Words) where
-  -- the rows' pages, and a newline between neighbours
-  pub bytes-are : sum-of page-length t ≤ length pages → length (whole-page (map bytes-of (pages-of t pages marks))) ≡ sum-of page-length t + (length t - 1)
-  bytes-are h =
-      let ps = pages-of t pages marks in
-      let n : length (map bytes-of ps) ≡ length t = length-map ps bytes-of ∙ pages-count t pages marks in
-      omega (arith, whole-page-length (map bytes-of ps), bytes-length t pages marks h, n)
-
-  pub spans-are : sum-of span-count t ≤ length marks → length (whole-spans (map bytes-of (pages-of t pages marks)) (map spans-of (pages-of t pages marks))) ≡ sum-of span-count t
-  spans-are h =
-      let ps = pages-of t pages marks in
-      whole-spans-length (map bytes-of ps) (map spans-of ps) (omega (arith, length-map ps bytes-of, length-map ps spans-of)) ∙ spans-length t pages marks h

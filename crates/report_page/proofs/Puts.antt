@@ -1,7 +1,7 @@
 -- Lists put from a place on, one element after the other.
-use mathlib.Core.Path.{_≡_, refl, sym, ap, _∙_}
+use mathlib.Core.Path.{_≡_, sym, ap, _∙_}
 use mathlib.Core.List.{List, [], _∷_, _++_, map}
-use Prim.Native.Nat.{ℕ, zero, suc, _+_, _≤_, _<_}
+use Prim.Native.Nat.{ℕ, suc, _+_, _≤_, _<_}
 use native.Mathlib.Nat.{add-zero}
 use native.Mathlib.Numerals.{add-one}
 use native.Mathlib.Omega.{arith}
@@ -31,11 +31,6 @@ put-more {A} {l} {s} {r} {at} {i} {x} d h g p = record {
       ∙ ap (λ (k : ℕ). set (sets l at (take i s)) (at + k) (getD s i d)) (length-take-le i s (omega arith))
       ∙ ap (λ (y : A). set (sets l at (take i s)) (at + i) y) g));
 }
-
-pub take-map : {A B : Type 0} (f : A → B) (n : ℕ) (l : List A) → take n (map f l) ≡ map f (take n l)
-take-map f zero l = refl
-take-map f (suc n) [] = refl
-take-map {B = B} f (suc n) (x ∷ l) = ap (λ (r : List B). f x ∷ r) (take-map f n l)
 
 pub mapped-at : {A B : Type 0} (f : A → B) (l : List A) (n i : ℕ) (d : A) → getD (map f (drop n l)) i (f d) ≡ f (getD l (n + i) d)
 mapped-at f l n i d = List·getD-map f (drop n l) i d ∙ ap f (getD-drop n l i d)

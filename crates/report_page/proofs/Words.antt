@@ -12,9 +12,9 @@ use Rattle.layout.specs.Spans.{Span}
 use Rattle.layout.specs.SpanWords.{parent-of, span-of}
 use Rattle.layout.specs.Report.{up-by, moved}
 use Rattle.report.specs.Memory.{Words}
-use Rattle.report_page.specs.Moves.{lead, parent-word, moved-words}
+use Rattle.report_page.specs.Moves.{lead, moved-parent, moved-words}
 
-pub parent-later : (n p : ℕ) → p ≢ 0 → p + n ≡ parent-word n p
+pub parent-later : (n p : ℕ) → p ≢ 0 → p + n ≡ moved-parent n p
 parent-later n zero h = absurd (h refl)
 parent-later n (suc p) h = refl
 
@@ -30,7 +30,7 @@ pub lead-room : (k at m : ℕ) → k ≢ 0 → at + length (lead k) ≤ m → at
 lead-room zero at m h r = absurd (h refl)
 lead-room (suc k) at m h r = omega arith
 
-parent-moved : (n p : ℕ) → parent-of (parent-word n p) ≡ up-by n (parent-of p)
+parent-moved : (n p : ℕ) → parent-of (moved-parent n p) ≡ up-by n (parent-of p)
 parent-moved n zero = refl
 parent-moved n (suc p) = ap parent-of (suc-add p n)
 

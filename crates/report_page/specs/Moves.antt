@@ -10,10 +10,10 @@ lead zero = []
 lead (suc k) = 10 ∷ []
 
 -- a parent's word, with n spans before the row: 0 is no parent and stays
-abbrev pub parent-word : ℕ → ℕ → ℕ
-parent-word n zero = 0
-parent-word n (suc p) = suc p + n
+abbrev pub moved-parent : ℕ → ℕ → ℕ
+moved-parent n zero = 0
+moved-parent n (suc p) = suc p + n
 
 -- the words of a row's span, where the row's page starts at a position and n spans are before it
 abbrev pub moved-words : ℕ → ℕ → Words → Words
-moved-words at n r = getD r 0 0 ∷ (getD r 1 0 + at) ∷ (getD r 2 0 + at) ∷ parent-word n (getD r 3 0) ∷ []
+moved-words at n r = getD r 0 0 ∷ (getD r 1 0 + at) ∷ (getD r 2 0 + at) ∷ moved-parent n (getD r 3 0) ∷ []

@@ -4,13 +4,13 @@ ghost use mathlib.Core.List.{map};
 ghost use Prim.Native.Nat.{_+_, _≤_, _<_, _^_};
 ghost use lib.ListN.{length, take, drop};
 ghost use lib.Seq.{sets};
-ghost use Rattle.report_page.specs.Moves.{lead, parent-word, moved-words};
+ghost use Rattle.report_page.specs.Moves.{lead, moved-parent, moved-words};
 ghost use Rattle.report_page.specs.Delivered.{Deliverable, Delivered};
 
 // A parent's word: 0, no parent, stays; a number moves by the n spans before the row.
 fn moved_parent(word: u32, n: usize) -> u64
     requires { ⌜ n < 2 ^ 32 ⌝ }
-    ensures { λ r. ⌜ r ≡ parent-word n word ⌝ }
+    ensures { λ r. ⌜ r ≡ moved-parent n word ⌝ }
 {
     if word == 0 {
         return 0;

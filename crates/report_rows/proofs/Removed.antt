@@ -7,21 +7,18 @@ use native.Mathlib.Omega.{arith}
 use lib.Dec.{ltb}
 use borrow.Author.Tests.{ltb-true, ltb-false}
 use lib.ListN.{length, take, drop, length-append, drop-of-length-le}
-use lib.Seq.{take-all, take-at, take-append-le, drop-append-le}
+use lib.Seq.{take-at, take-append-le, drop-append-le}
 use Rattle.report.specs.Report.{remove-at}
+use Rattle.report.specs.Lists.{remove-none}
 
 module _ {A : Type 0} where
-  -- there is none at that place
-  removes-none : (l : List A) (k : ℕ) → length l < k + 1 → remove-at k 1 l ≡ l
-  removes-none l k h = ap₂ (λ (a b : List A). a ++ b) (take-all k l (omega arith)) (drop-of-length-le l {i = k + 1} (omega arith)) ∙ append-nil l
-
   pub removed-nil : (k : ℕ) → remove-at {A = A} k 1 [] ≡ []
-  removed-nil k = removes-none [] k (omega arith)
+  removed-nil k = remove-none k [] (omega arith)
 
   -- the new one is the one
   pub removed-last : (l : List A) (x : A) (k : ℕ) → k ≡ length l → remove-at k 1 (l ++ (x ∷ [])) ≡ remove-at k 1 l
   removed-last l x k e =
-      ap₂ (λ (a b : List A). a ++ b) (take-at l (x ∷ []) k (sym e)) (drop-of-length-le (l ++ (x ∷ [])) {i = k + 1} (omega (arith, length-append l (x ∷ [])))) ∙ append-nil l ∙ sym (removes-none l k (omega arith))
+      ap₂ (λ (a b : List A). a ++ b) (take-at l (x ∷ []) k (sym e)) (drop-of-length-le (l ++ (x ∷ [])) {i = k + 1} (omega (arith, length-append l (x ∷ [])))) ∙ append-nil l ∙ sym (remove-none k l (omega arith))
 
   -- it is one before, or none yet
   removed-before : (l : List A) (x : A) (k : ℕ) → k < length l → remove-at k 1 (l ++ (x ∷ [])) ≡ remove-at k 1 l ++ (x ∷ [])
@@ -29,7 +26,7 @@ module _ {A : Type 0} where
       ap₂ (λ (a b : List A). a ++ b) (take-append-le k l (x ∷ []) (omega arith)) (drop-append-le (k + 1) l (x ∷ []) (omega arith)) ∙ sym (append-assoc (take k l) (drop (k + 1) l) (x ∷ []))
 
   removed-later : (l : List A) (x : A) (k : ℕ) → length l < k → remove-at k 1 (l ++ (x ∷ [])) ≡ remove-at k 1 l ++ (x ∷ [])
-  removed-later l x k h = removes-none (l ++ (x ∷ [])) k (omega (arith, length-append l (x ∷ []))) ∙ ap (λ (a : List A). a ++ (x ∷ [])) (sym (removes-none l k (omega arith)))
+  removed-later l x k h = remove-none k (l ++ (x ∷ [])) (omega (arith, length-append l (x ∷ []))) ∙ ap (λ (a : List A). a ++ (x ∷ [])) (sym (remove-none k l (omega arith)))
 
   pub removed-other : (l : List A) (x : A) (k : ℕ) → (k ≡ length l → ⊥) → remove-at k 1 (l ++ (x ∷ [])) ≡ remove-at k 1 l ++ (x ∷ [])
   removed-other l x k h = go (ltb k (length l)) (ltb (length l) k) refl refl

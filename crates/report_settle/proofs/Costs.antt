@@ -1,11 +1,10 @@
 -- The cost of the whole page with a row more or less, from sums.
 use mathlib.Core.Path.{_≡_, sym, ap, ap₂, subst, _∙_}
-use mathlib.Core.List.{List, [], _∷_, _++_, map, append-nil}
+use mathlib.Core.List.{List, [], _∷_, map}
 use Prim.Native.Nat.{ℕ, _+_, _-_, _*_, _≤_, _<_}
 use native.Mathlib.Nat.{lt-of-le-of-lt}
 use native.Mathlib.Omega.{arith}
-use lib.ListN.{length, length-map, drop-of-length-le}
-use lib.Seq.{take-all}
+use lib.ListN.{length, length-map}
 use Rattle.cost.specs.Cost.{Cost, add}
 use Rattle.cost.specs.Value.{value, outcome, within}
 use Rattle.cost.specs.declared.Reason.{Reason}
@@ -16,7 +15,7 @@ use Rattle.layout.specs.Report.{newline-at, whole-cost}
 use Rattle.report.specs.Report.{insert-at, remove-at}
 use Rattle.report.specs.Answers.{CostFits}
 use Rattle.report.specs.Memory.{Words, cost-at}
-use Rattle.report.specs.Lists.{length-insert, length-remove, map-remove}
+use Rattle.report.specs.Lists.{remove-none, length-insert, length-remove, map-remove}
 use Rattle.report_rows.specs.Costs.{cost-sum, CostTold, past}
 use Rattle.report_rows.specs.WholeCost.{same-cost, cost-insert, whole-cost-is}
 use Rattle.report_rows.proofs.Costs.{added, not-added}
@@ -30,9 +29,6 @@ module _ (n rows place : ℕ) (t : List Words) (is : length t ≡ rows) (h : pla
       whole-cost-is n (insert-at place (c ∷ []) cs)
       ∙ ap₂ (λ (x : Cost) (y : ℕ). add x (newline-at (n * y))) (cost-insert place c cs) l
       ∙ same-cost (omega arith) (omega arith)
-
-  all-rows : remove-at rows 1 t ≡ t
-  all-rows = ap₂ (λ (x y : List Words). x ++ y) (take-all rows t (omega (arith, is))) (drop-of-length-le t {i = rows + 1} (omega (arith, is))) ∙ append-nil t
 
   module _ (start cost : ConsumerCost) (s : value start ≡ newline-at (n * (rows + 1 - 1))) (r : Costed) (e : outcome r ≡ within (add (value start) (value cost))) where
     -- past its widths already
@@ -49,7 +45,7 @@ module _ (n rows place : ℕ) (t : List Words) (is : length t ≡ rows) (h : pla
     with-told sum q {z} w =
         let a = added (add (value start) (value cost)) (value sum) (sym (ap outcome q) ∙ e) in
         let v : add (value sum) (cost-sum (map cost-at (remove-at rows 1 t))) ≡ whole-cost n (insert-at place (value cost ∷ []) (map cost-at t))
-        = ap₂ (λ (x : Cost) (y : List Words). add x (cost-sum (map cost-at y))) (a .same) all-rows ∙ ap (λ (x : Cost). add (add x (value cost)) (cost-sum (map cost-at t))) s ∙ sym (with-is (value cost)) in
+        = ap₂ (λ (x : Cost) (y : List Words). add x (cost-sum (map cost-at y))) (a .same) (remove-none rows t (omega (arith, is))) ∙ ap (λ (x : Cost). add (add x (value cost)) (cost-sum (map cost-at t))) s ∙ sym (with-is (value cost)) in
         subst (λ (x : Cost). CostTold x z) v w
 
 -- a row less

@@ -1,13 +1,13 @@
 -- Laws of `paste`, for items of any type: what is before and after it, and that an insertion is two of them, a removal one.
-use mathlib.Core.Path.{_≡_, refl, sym, ap, _∙_, subst}
+use mathlib.Core.Path.{_≡_, sym, ap, _∙_, subst}
 use mathlib.Core.List.{List, [], _∷_, _++_, map, append-assoc}
-use Prim.Native.Nat.{ℕ, zero, suc, _+_, _-_, _≤_, _<_}
+use Prim.Native.Nat.{ℕ, suc, _+_, _-_, _≤_, _<_}
 use native.Mathlib.Omega.{arith}
 use native.Mathlib.Numerals.{add-one}
 use lib.ListN.{length, getD, set, take, drop, length-drop, length-map, List·getD-append}
 use lib.Seq.{paste, take-suc, set-at, set-split, take-at, drop-at, take-append-le, take-take, take-add, take-length, length-take-le, getD-take, getD-drop, take-paste, drop-paste, length-paste}
 use Rattle.report.specs.Report.{insert-at, remove-at}
-use Rattle.report.specs.Lists.{drop-take}
+use Rattle.report.specs.Lists.{drop-take, map-take}
 use Rattle.report_store.specs.Moves.{moved-up}
 
 module _ {A : Type 0} where
@@ -100,12 +100,7 @@ module _ {A : Type 0} where
       ∙ take-paste m at (drop (at + n) m) w (omega arith) (omega (arith, length-drop (at + n) m))
       ∙ rw (take-take at used m (omega arith), stood)
 
-take-map : {A B : Type 0} (f : A → B) (n : ℕ) (l : List A) → take n (map f l) ≡ map f (take n l)
-take-map f zero l = refl
-take-map f (suc n) [] = refl
-take-map {B = B} f (suc n) (x ∷ l) = ap (λ (r : List B). f x ∷ r) (take-map f n l)
-
 pub inserted-each : {A B : Type 0} (f : A → B) (m m₁ m₂ : List B) (l : List A) (used at n : ℕ) → at ≤ used → used + n ≤ length m → n ≤ length l → m₁ ≡ moved-up m used at n → m₂ ≡ paste m₁ at (map f l) n
     → take (used + n) m₂ ≡ insert-at at (map f (take n l)) (take used m)
 inserted-each {B = B} f m m₁ m₂ l used at n h r k e₁ e₂ =
-    inserted m m₁ m₂ (map f l) used at n h r (omega (arith, length-map l f)) e₁ e₂ ∙ ap (λ (s : List B). insert-at at s (take used m)) (take-map f n l)
+    inserted m m₁ m₂ (map f l) used at n h r (omega (arith, length-map l f)) e₁ e₂ ∙ ap (λ (s : List B). insert-at at s (take used m)) (sym (map-take f n l))

@@ -6,7 +6,8 @@ use lib.ListN.{drop, length-drop, length-map}
 use lib.Seq.{sets}
 use Rattle.report.specs.Memory.{Words}
 use Rattle.report_page.specs.Moves.{moved-words}
-use Rattle.report_page.proofs.Puts.{Put, put-length, put-more, put-end, mapped-at, take-map}
+use Rattle.report_page.proofs.Puts.{Put, put-length, put-more, put-end, mapped-at}
+use Rattle.report.specs.Lists.{map-take}
 use Rattle.report_page.proofs.put_marks.Statement.{statement}
 use Rattle.report_page.proofs.put_marks.Tie as tie
 
@@ -53,7 +54,7 @@ same-length : tie.Need-same-length Inv-loop μ-loop
 same-length c = put-length (c .before .loop .inv .1)
 
 returns : tie.Need-returns Inv-loop μ-loop
-returns c = put-end {n = c .before .before .args .count} (omega arith) (c .before .loop .inv .1) ∙ ap (λ (vs : List Words). sets (c .before .before .args .spans .now) (c .before .before .args .n) vs) (take-map (moved-words (c .before .before .args .at) (c .before .before .args .n)) (c .before .before .args .count) (drop (c .before .before .args .n) (c .before .before .args .marks .now)))
+returns c = put-end {n = c .before .before .args .count} (omega arith) (c .before .loop .inv .1) ∙ ap (λ (vs : List Words). sets (c .before .before .args .spans .now) (c .before .before .args .n) vs) (sym (map-take (moved-words (c .before .before .args .at) (c .before .before .args .n)) (c .before .before .args .count) (drop (c .before .before .args .n) (c .before .before .args .marks .now))))
 
 pub put-marks-spec : {M : Type 1} → statement M
 put-marks-spec =
