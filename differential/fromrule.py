@@ -7,7 +7,7 @@ differential/differential/src/sample.rs) by part 4, and by part 2 where the layo
     fromrule.py HEX W N P R    one file with width, newline cost, policy, rule: page, spans, cost, counts, needs at the sizes of `page`
     fromrule.py --rule ../docs/RULE.md [--page-program PATH] [--calls-program PATH]
                                all that the page itself works out, its annex and check numbers (rulepage.py), then the steps of part 7
-                               (LivePage). What `page` can be asked of it is asked of the first program too, all calls with their sizes
+                               (LivePage), then calls and steps for desks (DeskPage). What `page` can be asked of it is asked of the first program too, all calls with their sizes
                                of the second (test_calls)
 """
 import re
@@ -623,6 +623,33 @@ def taken(report, step, sizes, limits):
     return report.remove(place, sizes) if data is None else report.insert(place, data, sizes, limits)
 
 
+# ---- work counted by desk
+
+class Desks:
+    """How much work each of the desks 0 to 7 may do, and how much it has done. They are kept from call to call."""
+
+    def __init__(self, allowance, spent):
+        self.allowance, self.spent = list(allowance), list(spent)
+
+    def served(self, desk, setting, limits, call):
+        """1, then 28, then the call with no more work than its limit and what the desk may still do; its work is added to what it has done."""
+        try:
+            test_setting(*setting)
+            refuse_if(desk > 7, 28)
+        except Refused as r:
+            return ((r.number, r.needed), dict.fromkeys(COUNTS, 0), None), None
+        (said, counts, needs), after = call([min(limits[0], max(self.allowance[desk] - self.spent[desk], 0)), limits[1]])
+        self.spent[desk] += counts['work']
+        return (said, counts, needs), after
+
+    def call(self, desk, data, setting, sizes, limits):
+        return self.served(desk, setting, limits, lambda limits: (answer(data, setting, sizes, limits), None))[0]
+
+    def step(self, desk, report, step, sizes, limits):
+        given, after = self.served(desk, report.setting, limits, lambda limits: taken(report, step, sizes, limits))
+        return given, after or report
+
+
 class OneDocument(File):
     """The tables of a Seq of the rows with a HardLine between neighbours, as if it were a file. What a row's numbers name stands further
     back by what the rows before it have; its annotations stay."""
@@ -796,11 +823,84 @@ class LivePage:
             self.results(where, cell)
         for where, cell in self.cells('no.', 'rows', 'step', 'but'):
             self.refusals(where, cell)
+        return self.told('live reports')
+
+    def told(self, what):
         for line in self.page.different:
             print(line)
-        said = ['live reports'] + ['%d %s' % (number, what) for what, number in self.page.done.items()]
+        said = [what] + ['%d %s' % (number, what) for what, number in self.page.done.items()]
         print('; '.join(said) + ': %d different' % len(self.page.different))
         return 1 if self.page.different else 0
+
+
+class DeskPage(LivePage):
+    """Calls and steps for desks.
+
+    A table that begins with `desk`, `allowance`, `spent`, `rows`, `call`, `but` has a call in each row: `page of A`, with `rows` empty, or a step
+    as in part 7. Then come `no.` (`page` where there is one), `needed`, `work` and `spent after`. Where allowance and spent are empty, the desk's
+    are as the rows above left them, and where `rows` is empty, the report is as the last step left it. For a desk above 7 all these are empty."""
+
+    HEAD = ['desk', 'allowance', 'spent', 'rows', 'call', 'but', 'no.', 'needed', 'work', 'spent after']
+    def number(self, cell):
+        from_the_end = re.fullmatch(r'2\^64 − ([\d,]+)', cell)
+        return 2 ** 64 - self.tool.number(from_the_end[1]) if from_the_end else self.tool.number(cell)
+
+    def begin(self):
+        """Words that a call for another desk may neither read nor alter."""
+        self.desks = Desks([5, 0, 2 ** 64 - 1, 7] * 2, [0, 9, 2 ** 64 - 1, 2 ** 64 - 2] * 2)
+
+    def called(self, where, cell):
+        """The answer of a row, held to what the row says."""
+        desk = self.number(cell['desk'])
+        if cell['allowance']:
+            self.desks.allowance[desk], self.desks.spent[desk] = self.number(cell['allowance']), self.number(cell['spent'])
+        words = self.desks.allowance + self.desks.spent
+        setting, sizes, limits = self.given(cell['but'])
+        if cell['call'].startswith('page of '):
+            said, counts, _ = self.desks.call(desk, self.file(cell['call'][8:]), setting, sizes, limits)
+        else:
+            if cell['rows']:
+                self.report = self.read({'rows': cell['rows'], 'step': cell['call'], 'but': cell['but']})[0]
+            step = self.read({'rows': 'none', 'step': cell['call'], 'but': cell['but']})[1]
+            (said, counts, _), self.report = self.desks.step(desk, self.report, step, sizes, limits)
+        if desk < 8:
+            words[8 + desk] += counts['work']
+            self.agree('spent counts', where, self.number(cell['spent after']), self.desks.spent[desk])
+        self.agree('desks', where, words, self.desks.allowance + self.desks.spent)
+        told = [0 if cell['no.'] == 'page' else self.number(cell['no.']), self.number(cell['needed']), self.number(cell['work'])]
+        worked = list(said) if len(said) == 2 else [0, 0]
+        self.agree('calls', where, told, worked + [counts['work']])
+
+    def alone(self):
+        """Three desks in turn, each with a report of its own and one with none: each gets the same alone, whatever the others' words are."""
+        files = [self.file(name) for name in ('A', 'M', 'F', 'N', 'nothing')]
+        turns = [(n % 3, n // 3 % 4, files[n * 7 % 5]) for n in range(60)]
+
+        def run(turns, words):
+            desks, reports, said = Desks(words[:8], words[8:]), [Report([2, 1, 0, 1]) for _ in range(3)], []
+            for n, (desk, kind, data) in enumerate(turns):
+                if kind == 0:
+                    given = desks.call(desk, data, [3, 1, 0, 1], *PAGE)
+                else:
+                    step = (0, None) if kind == 3 else (0, data)
+                    given, reports[desk] = desks.step(desk, reports[desk], step, *PAGE)
+                said.append((desk, given, desks.allowance[desk], desks.spent[desk]))
+            return said
+
+        together = run(turns, [40, 100, 10 ** 6, 0, 0, 0, 0, 0] + [0, 30, 0, 9, 9, 9, 9, 9])
+        for desk, (allowance, spent) in enumerate([(40, 0), (100, 30), (10 ** 6, 0)]):
+            words = [n * 3 for n in range(16)]
+            words[desk], words[8 + desk] = allowance, spent
+            self.agree('desks alone', str(desk), run([turn for turn in turns if turn[0] == desk], words), [one for one in together if one[0] == desk])
+
+    def whole(self):
+        for _, cell in self.cells('row', 'file'):
+            self.letters[cell['row']] = self.page.made_of(cell['file'])
+        self.begin()
+        for where, cell in self.cells(*self.HEAD[:6]):
+            self.called(where, cell)
+        self.alone()
+        return self.told('desks')
 
 
 def main(arguments):
@@ -809,7 +909,9 @@ def main(arguments):
         import rulepage
         named = dict(zip(arguments[2::2], arguments[3::2]))
         different = rulepage.main(arguments[1], named.get('--page-program'), named.get('--calls-program'))
-        sys.exit(LivePage(arguments[1]).whole() or different)
+        for part in LivePage, DeskPage:
+            different |= part(arguments[1]).whole()
+        sys.exit(different)
     if arguments[0] == '--page':
         done = wrong = 0
         for name in arguments[1:]:

@@ -2,8 +2,9 @@
 """Runs records/main.rt.txt, a program over `printer::render`, on calls of the frozen sample and holds what it writes to their answers.
 
 No program of crates/ lends records: a function that does is proved by a walk by hand. This one is not proved. It is put into a copy of the
-tree and run from source by `rt try`: interpreted, and compiled three ways. Each call that has a page is made a second time with one span
-record less than its size says, which is refused by 1.
+tree and run from source by `rt try`: interpreted, and compiled three ways. The desks take turns; of every second call the work limit is what
+its desk may still do, and its own limit is none, which makes no difference. Each call that has a page is made again with one span record less
+than its size says, which is refused by 1, and for a desk above 7, which is refused by 28.
 """
 import collections, os, shutil, struct, subprocess, sys, tempfile
 
@@ -11,7 +12,7 @@ import collections, os, shutil, struct, subprocess, sys, tempfile
 # together.
 MOST, AT_ONCE, WORK_AT_ONCE = 1000, 40, 3000
 HERE = os.path.dirname(os.path.abspath(__file__))
-LISTED = 'test_records: file_tables cost stats spans solve_workspace printer io libc\n'
+LISTED = 'test_records: file_tables cost stats spans solve_workspace desks printer io libc\n'
 
 def sample():
     """The calls of sample/cases.txt: settings, sizes and limits; the file; the lines of the answer."""
@@ -26,12 +27,17 @@ def sample():
             yield words, file, answer
 
 def calls():
-    """With the number of span records that are lent."""
-    for words, file, answer in sample():
-        spans = words[12]
-        yield words + [spans], file, answer
-        if spans > 0 and answer[0].startswith('page'):
-            yield words + [spans - 1], file, ['refused 1 0', 'counts' + ' 0' * 10]
+    """With the number of span records that are lent, the desk, its allowance and what it has spent."""
+    for n, (words, file, answer) in enumerate(sample()):
+        spans, limit = words[12:14]
+        account = [2 ** 64 - 1, 0]
+        if n % 2 and limit < 2 ** 63:
+            words, account = words[:13] + [2 ** 64 - 1] + words[14:], [limit + n, n]
+        yield words + [spans, n % 8] + account, file, answer
+        if answer[0].startswith('page'):
+            if spans > 0:
+                yield words + [spans - 1, n % 8] + account, file, ['refused 1 0', 'counts' + ' 0' * 10]
+            yield words + [spans, 8 + n] + account, file, ['refused 28 0', 'counts' + ' 0' * 10]
 
 def kind(answer):
     if answer[0].startswith('refused'):
@@ -55,7 +61,7 @@ def run(tree, part):
     crate = tree + '/crates/test_records'
     with open(crate + '/stdin', 'wb') as stdin, open(crate + '/stdout', 'w') as stdout:
         for words, file, answer in part:
-            stdin.write(struct.pack('<17Q', *words, len(file)) + file)
+            stdin.write(struct.pack('<20Q', *words, len(file)) + file)
             stdout.write('\n'.join(answer) + '\n\n')
     done = subprocess.run(['rt', 'try', 'test_records'], cwd=tree, stdout=subprocess.PIPE, stderr=subprocess.STDOUT, text=True)
     if done.returncode != 0:

@@ -1,9 +1,9 @@
 /* A prepared file's page, by the proved library libgannozhi.a (`rt staticlib gannozhi`), on x86-64.
  *
  * Every slice is a pointer and a number of items. A pointer is never null, also where there are no items, and is aligned for its items;
- * what is written overlaps nothing else. What lent memory holds at entry does not matter, but for the memory of a live report. Where a slice
- * is too short the library refuses by 1; no call has any other condition. The library allocates nothing, keeps nothing between calls, and
- * calls nothing but memcpy and memset.
+ * what is written overlaps nothing else. What lent memory holds at entry does not matter, but for the memory of a live report and the desks.
+ * Where a slice is too short the library refuses by 1; no call has any other condition. The library allocates nothing, keeps nothing between
+ * calls but in what it is lent, and calls nothing but memcpy and memset.
  *
  * docs/MEMORY.md says what the working memory is for. */
 #ifndef GANNOZHI_H
@@ -32,7 +32,7 @@ enum {
 
 /* The words of an answer. */
 enum {
-    GANNOZHI_NUMBER,         /* of the refusal, 1 to 22, 25 or 26, of a report's step 23 or 24 too; 0: there is a page */
+    GANNOZHI_NUMBER,         /* of the refusal, 1 to 22, 25, 26 or 28, of a report's step 23 or 24 too; 0: there is a page */
     GANNOZHI_NEEDED,         /* size that is needed: 13 to 21; else 0 */
     GANNOZHI_LENGTH,         /* bytes of the page, at the front of the output */
     GANNOZHI_SPAN_COUNT,     /* spans, at the front of the rows */
@@ -66,7 +66,8 @@ static inline const char *gannozhi_refusal(uint32_t number) {
         "domain", "work", "stack", "memo", "kept", "frontier", "plans",                      /* the solver: 11 to 17 */
         "visit", "depth", "output", "spans", "visits",                                       /* the materializer: 18 to 22 */
         "place", "rows",                                                                     /* a report's steps: 23 and 24 */
-        "indent", "cost"};                                                                   /* the solver again: 25 and 26 */
+        "indent", "cost",                                                                    /* the solver again: 25 and 26 */
+        "", "desk"};                                                                         /* 27 is none; 28 */
     return number < sizeof words / sizeof *words ? words[number] : "";
 }
 
@@ -88,15 +89,31 @@ static inline size_t gannozhi_memo_slots(uint32_t entries) {
     return slots;
 }
 
+/* Work counted by desk. What can solve is called for a desk, 0 to 7, with the desks of all calls that share them: how much work each may do,
+ * and how much it has done. They are kept between calls by the caller and nowhere else. The caller sets the allowances, and the spent counts at
+ * the start; both may be set anew between any two calls.
+ *
+ * A call adds its work (GANNOZHI_WORK), also that of a refused call, to the spent count of its own desk; it alters no other word, and no call
+ * alters an allowance. It is refused by 12 where that count would pass its allowance, or the call's work its work limit: so it has the lesser
+ * of the two, and none where more is spent than allowed. A desk above 7 is 28, tested right after 1 and before all else, and is charged
+ * nothing. Where there are no desks: desk 0, its allowance UINT64_MAX, its spent count 0. */
+#define GANNOZHI_DESKS 8
+
+typedef struct {
+    uint64_t allowance[GANNOZHI_DESKS];
+    uint64_t spent[GANNOZHI_DESKS];
+} gannozhi_desks;
+
 /* A span: annotation, start and end on the page, and 0 for no parent or one more than the parent's number. */
 typedef uint64_t gannozhi_span[4];
 
-/* The page of a file, or why there is none; the answer's first word is returned too. On a refusal output and spans are unaltered, and past
- * the page's end they always are.
+/* The page of a file, or why there is none, for a desk; the answer's first word is returned too. On a refusal output and spans are unaltered,
+ * and past the page's end they always are.
  *
  * The rule says what a line past the width is charged: 1 the square of the columns past it, 2 those columns themselves. Anything else is
  * refused by 1, as are a width of 0 and a policy above 1. */
 uint32_t gannozhi_render(
+    uint32_t desk, gannozhi_desks *desks,
     const uint8_t *file, size_t file_length,
     uint32_t width, uint32_t newline_cost, uint32_t policy, uint32_t rule,
     const uint32_t sizes[GANNOZHI_SIZES], uint64_t work_limit, uint64_t visit_limit,
@@ -196,11 +213,12 @@ uint32_t gannozhi_report_open(
  * spans and cost. Each span has its row's annotation; positions and parents are the whole page's. Only the new row is solved: counts are those
  * of a call on its file alone, and so are the needs but for output and spans, which are the whole page's.
  *
- * Refused in this order: 1; 23, the place is not there; 24, the report has 1,024 rows; as gannozhi_render refuses the file under the same sizes
- * and limits; then by the whole page: 26, 20, 21, with its number of bytes or spans as the size that is needed. On a refusal the report, output
- * and spans are unaltered, and past the page's end output and spans always are. Row output and row spans are working memory, as are the slices
- * before them. */
+ * Refused in this order: 1; 28, no such desk; 23, the place is not there; 24, the report has 1,024 rows; as gannozhi_render refuses the file for
+ * the same desk under the same sizes and limits; then by the whole page: 26, 20, 21, with its number of bytes or spans as the size that is
+ * needed. On a refusal the report, output and spans are unaltered, and past the page's end output and spans always are. Row output and row
+ * spans are working memory, as are the slices before them. */
 uint32_t gannozhi_report_insert(
+    uint32_t desk, gannozhi_desks *desks,
     size_t place, const uint8_t *file, size_t file_length,
     const uint32_t sizes[GANNOZHI_SIZES], uint64_t work_limit, uint64_t visit_limit,
     uint32_t head[GANNOZHI_HEAD],
@@ -230,8 +248,10 @@ uint32_t gannozhi_report_insert(
     uint64_t answer[GANNOZHI_ANSWER]);
 
 /* The row at a place taken away, and the page of those left, as above. Nothing is solved: counts are 0, and so are the needs but for output and
- * spans, the only sizes that are looked at. Refused in this order: 1; 23; 26, 20 and 21 by the whole page. */
+ * spans, the only sizes that are looked at. It needs no allowance and alters no spent count. Refused in this order: 1; 28; 23; 26, 20 and 21
+ * by the whole page. */
 uint32_t gannozhi_report_remove(
+    uint32_t desk, gannozhi_desks *desks,
     size_t place, const uint32_t sizes[GANNOZHI_SIZES],
     uint32_t head[GANNOZHI_HEAD],
     gannozhi_row *table, size_t table_length,       /* GANNOZHI_ROWS */

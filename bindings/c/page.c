@@ -32,6 +32,9 @@ static struct {
 
 #define LENT(slice) lent.slice, sizeof lent.slice / sizeof *lent.slice
 
+/* Desk 0, whose work is held to the limit of the call alone. */
+static gannozhi_desks desks = {.allowance = {UINT64_MAX}};
+
 /* No file has more than 339,997 bytes; the one more shows that there is a surplus. */
 static uint8_t file[339998];
 static uint64_t answer[GANNOZHI_ANSWER];
@@ -58,9 +61,9 @@ int main(int count, char **words) {
     }
     size_t length = fread(file, 1, sizeof file, stdin);
     uint32_t number = gannozhi_render(
-        file, length, setting[0], setting[1], setting[2], setting[3], sizes, 1000000, 1000000, LENT(nodes), LENT(edges), LENT(choices),
-        LENT(texts), LENT(bytes), LENT(tasks), LENT(results), LENT(pending), LENT(index), LENT(entries), LENT(kept), LENT(frontier),
-        LENT(plans), LENT(visit), LENT(depth), LENT(output), LENT(spans), answer);
+        0, &desks, file, length, setting[0], setting[1], setting[2], setting[3], sizes, 1000000, 1000000, LENT(nodes), LENT(edges),
+        LENT(choices), LENT(texts), LENT(bytes), LENT(tasks), LENT(results), LENT(pending), LENT(index), LENT(entries), LENT(kept),
+        LENT(frontier), LENT(plans), LENT(visit), LENT(depth), LENT(output), LENT(spans), answer);
     if (number != 0) {
         fprintf(stderr, "refused %" PRIu32 " %s", number, gannozhi_refusal(number));
         if (answer[GANNOZHI_NEEDED] != 0) fprintf(stderr, ", needed %" PRIu64, answer[GANNOZHI_NEEDED]);

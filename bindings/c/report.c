@@ -47,6 +47,9 @@ static struct {
 #define LENT(slice) SLICE(lent.slice)
 #define HELD report.head, SLICE(report.table), SLICE(report.files), SLICE(report.pages), SLICE(report.marks), LENT(output), LENT(spans)
 
+/* All steps are desk 0's, whose work is held to the limit of the step alone. */
+static gannozhi_desks desks = {.allowance = {UINT64_MAX}};
+
 /* No file has more than 339,997 bytes; the one more shows that there is a surplus. */
 static uint8_t file[339998];
 static uint64_t answer[GANNOZHI_ANSWER];
@@ -68,9 +71,9 @@ static uint32_t insert(size_t place, const char *name) {
     size_t length = fread(file, 1, sizeof file, input);
     fclose(input);
     return gannozhi_report_insert(
-        place, file, length, sizes, 1000000, 1000000, HELD, LENT(nodes), LENT(edges), LENT(choices), LENT(texts), LENT(bytes), LENT(tasks),
-        LENT(results), LENT(pending), LENT(index), LENT(entries), LENT(kept), LENT(frontier), LENT(plans), LENT(visit), LENT(depth),
-        LENT(row_output), LENT(row_spans), answer);
+        0, &desks, place, file, length, sizes, 1000000, 1000000, HELD, LENT(nodes), LENT(edges), LENT(choices), LENT(texts), LENT(bytes),
+        LENT(tasks), LENT(results), LENT(pending), LENT(index), LENT(entries), LENT(kept), LENT(frontier), LENT(plans), LENT(visit),
+        LENT(depth), LENT(row_output), LENT(row_spans), answer);
 }
 
 static int misused(void) {
@@ -100,7 +103,8 @@ int main(int count, char **words) {
     for (int i = 5; i < count; i++) {
         const char *step = words[i];
         number_of(step + 1, SIZE_MAX, &place);
-        uint32_t number = *step == '+' ? insert(place, words[++i]) : gannozhi_report_remove(place, sizes, HELD, answer);
+        uint32_t number =
+            *step == '+' ? insert(place, words[++i]) : gannozhi_report_remove(0, &desks, place, sizes, HELD, answer);
         if (number != 0) {
             fprintf(stderr, "%s: refused %" PRIu32 " %s", step, number, gannozhi_refusal(number));
             if (answer[GANNOZHI_NEEDED] != 0) fprintf(stderr, ", needed %" PRIu64, answer[GANNOZHI_NEEDED]);

@@ -6,7 +6,7 @@
 use std::io::{Read, Write};
 use std::process::ExitCode;
 
-use gannozhi::{Limits, Printer, Settings, Sizes};
+use gannozhi::{Desks, Limits, Printer, Settings, Sizes};
 
 const USAGE: &str = "usage: page [WIDTH [NEWLINE_COST [POLICY [RULE]]]] < FILE   (80 1 0 1 where they are not given)";
 
@@ -35,7 +35,9 @@ fn main() -> ExitCode {
     let mut file = Vec::new();
     std::io::stdin().read_to_end(&mut file).expect("standard input");
     let limits = Limits { work: 1_000_000, visits: 1_000_000 };
-    match Printer::new(Sizes::PAGE).render(&file, &Settings { width, newline_cost, policy, rule }, &limits) {
+    let settings = Settings { width, newline_cost, policy, rule };
+    // Desk 0, and its work held to the limit alone.
+    match Printer::new(Sizes::PAGE).render(0, &mut Desks::all(u64::MAX), &file, &settings, &limits) {
         Ok(page) => {
             eprintln!("overflow {:032x}, burden {}, work {}", page.overflow, page.burden, page.counts.work);
             eprintln!("needs {}", page.needs);

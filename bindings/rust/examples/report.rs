@@ -6,7 +6,7 @@
 use std::io::Write;
 use std::process::ExitCode;
 
-use gannozhi::{Limits, Refusal, Report, Settings, Sizes};
+use gannozhi::{Desks, Limits, Refusal, Report, Settings, Sizes};
 
 const USAGE: &str =
     "usage: report WIDTH NEWLINE_COST POLICY RULE STEP ..   (a step is +PLACE FILE, a row inserted, or -PLACE, a row removed)";
@@ -45,11 +45,13 @@ fn run(settings: &Settings, steps: &[(&str, Step)]) -> Result<u8, Refusal> {
     let limits = Limits { work: 1_000_000, visits: 1_000_000 };
     let most = Sizes { output: 1 << 20, spans: 1 << 14, ..Sizes::PAGE };
     let mut report = Report::open(settings, most)?;
+    // All steps are desk 0's, and their work is held to the limit alone.
+    let mut desks = Desks::all(u64::MAX);
     let mut status = 0;
     for (word, (place, name)) in steps {
         let answer = match name.map(|name| (name, std::fs::read(name))) {
-            None => report.remove(*place),
-            Some((_, Ok(file))) => report.insert(*place, &file, &limits),
+            None => report.remove(0, &mut desks, *place),
+            Some((_, Ok(file))) => report.insert(0, &mut desks, *place, &file, &limits),
             Some((name, Err(why))) => {
                 eprintln!("{name}: {why}");
                 return Ok(2);

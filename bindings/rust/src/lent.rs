@@ -2,7 +2,7 @@
 //! condition beyond its types.
 
 use crate::raw;
-use crate::{Counts, Limits, Refusal, Settings, Sizes};
+use crate::{Counts, Desks, Limits, Refusal, Settings, Sizes};
 
 /// Where a file's tables are put. At least 4,096 nodes, 16,384 edges, 16,384 choice edges, 4,096 texts and 65,536 bytes.
 pub struct TableMemory<'a> {
@@ -39,8 +39,11 @@ pub struct Rendered {
     pub needs: Sizes,
 }
 
+/// A file's page in output and spans, for a desk: its work is held to what the desk may still do, and charged to it.
 #[allow(clippy::too_many_arguments)]
 pub fn render_lent(
+    desk: u32,
+    desks: &mut Desks,
     file: &[u8],
     settings: &Settings,
     sizes: &Sizes,
@@ -51,7 +54,7 @@ pub fn render_lent(
     spans: &mut [[u64; 4]],
 ) -> Result<Rendered, Refusal> {
     let mut answer = [0; 26];
-    render_words(file, settings, sizes, limits, tables, solver, output, spans, &mut answer);
+    render_words(desk, desks, file, settings, sizes, limits, tables, solver, output, spans, &mut answer);
     told(&answer)
 }
 
@@ -59,6 +62,8 @@ pub fn render_lent(
 /// returned too. What they hold before does not matter: each is written.
 #[allow(clippy::too_many_arguments)]
 pub fn render_words(
+    desk: u32,
+    desks: &mut Desks,
     file: &[u8],
     settings: &Settings,
     sizes: &Sizes,
@@ -72,6 +77,8 @@ pub fn render_words(
     // SAFETY: every pointer and length is that of a live Rust slice or array, and no two that are written overlap.
     unsafe {
         raw::gannozhi_render(
+            desk,
+            desks,
             file.as_ptr(),
             file.len(),
             settings.width,

@@ -1,7 +1,11 @@
 //! A prepared file's page, by the proved library.
 //!
 //! [`Printer`] owns the memory that a call is lent. [`render_lent`], [`read_lent`] and [`write_lent`] take the caller's own slices: what they
-//! hold does not matter, and where one is too short the library refuses by 1. The library allocates nothing and keeps nothing between calls.
+//! hold does not matter, and where one is too short the library refuses by 1. The library allocates nothing and keeps nothing between calls but
+//! in what it is lent: the memory of a report, and [`Desks`].
+//!
+//! Whatever can solve is called for a desk, 0 to 7, and counts its work there. [`Desks`] says how much work each desk may do; a caller without
+//! desks calls for desk 0 with `&mut Desks::all(u64::MAX)`.
 //!
 //! [`Report`] is a live report: rows that come and go, each a prepared file, and their page after each step. It owns its memory and lets it
 //! grow. [`open_lent`], [`insert_lent`] and [`remove_lent`] take the caller's own slices; those of [`ReportMemory`] hold the report.
@@ -85,6 +89,24 @@ pub struct Limits {
     pub visits: u64,
 }
 
+/// How much work each of the desks 0 to 7 may do, and how much it has done. It is kept from call to call by whoever owns it, who sets the
+/// allowances; no call alters one. A call adds its work to the spent count of its own desk, refused calls too, and to nothing else. It is
+/// refused by 12 where the spent count would pass the allowance, or the call's work its own limit. A desk that has spent more than it is
+/// allowed may do no work.
+#[derive(Clone, Copy, Debug, Eq, PartialEq)]
+#[repr(C)]
+pub struct Desks {
+    pub allowance: [u64; 8],
+    pub spent: [u64; 8],
+}
+
+impl Desks {
+    /// Each may do so much, and has done nothing.
+    pub const fn all(allowance: u64) -> Desks {
+        Desks { allowance: [allowance; 8], spent: [0; 8] }
+    }
+}
+
 /// What was counted up to the end of the call, or to where it was refused.
 #[derive(Clone, Copy, Debug, Default, Eq, PartialEq)]
 pub struct Counts {
@@ -165,7 +187,7 @@ pub fn span(row: [u64; 4]) -> Span {
 }
 
 /// Why there is no page: the number of the refusal, the size that is needed (13 to 21; else 0), and the counts. 23 and 24 are refusals of a
-/// live report's steps alone.
+/// live report's steps alone. 28, a desk above 7, comes right after 1.
 #[derive(Clone, Copy, Debug, Eq, PartialEq)]
 pub struct Refusal {
     pub number: u32,
@@ -208,6 +230,7 @@ pub fn refusal(number: u32) -> &'static str {
         24 => "rows",
         25 => "indent",
         26 => "cost",
+        28 => "desk",
         _ => "",
     }
 }
@@ -319,10 +342,18 @@ impl Printer {
         (self.tables.lend(), solver, &mut self.output, &mut self.spans)
     }
 
-    pub fn render(&mut self, file: &[u8], settings: &Settings, limits: &Limits) -> Result<Page<'_>, Refusal> {
+    /// A file's page, for a desk.
+    pub fn render(
+        &mut self,
+        desk: u32,
+        desks: &mut Desks,
+        file: &[u8],
+        settings: &Settings,
+        limits: &Limits,
+    ) -> Result<Page<'_>, Refusal> {
         let sizes = self.sizes;
         let (tables, solver, output, spans) = self.lend();
-        let done = render_lent(file, settings, &sizes, limits, tables, solver, output, spans)?;
+        let done = render_lent(desk, desks, file, settings, &sizes, limits, tables, solver, output, spans)?;
         Ok(Page::told(done, &self.output, &self.spans))
     }
 }

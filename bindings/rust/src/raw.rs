@@ -1,7 +1,12 @@
-//! The library's functions as the linker sees them: a slice is a pointer that is not null, aligned for its items, and a length.
+//! The library's functions as the linker sees them: a slice is a pointer that is not null, aligned for its items, and a length. The desks are
+//! sixteen words, which is how [`Desks`] lies in memory.
+
+use crate::Desks;
 
 extern "C" {
     pub fn gannozhi_render(
+        desk: u32,
+        desks: *mut Desks,
         file: *const u8,
         file_length: usize,
         width: u32,
@@ -84,6 +89,8 @@ extern "C" {
     pub fn gannozhi_report_open(width: u32, newline_cost: u32, policy: u32, rule: u32, head: *mut [u32; 5]) -> u32;
 
     pub fn gannozhi_report_insert(
+        desk: u32,
+        desks: *mut Desks,
         place: usize,
         file: *const u8,
         file_length: usize,
@@ -141,6 +148,8 @@ extern "C" {
     ) -> u32;
 
     pub fn gannozhi_report_remove(
+        desk: u32,
+        desks: *mut Desks,
         place: usize,
         sizes: *const [u32; 9],
         head: *mut [u32; 5],

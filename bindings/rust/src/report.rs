@@ -1,7 +1,7 @@
 //! A live report that owns its memory.
 
 use crate::steps::{insert_lent, open_lent, remove_lent, ReportMemory};
-use crate::{Limits, Page, Printer, Refusal, Rendered, Settings, Sizes, Span};
+use crate::{Desks, Limits, Page, Printer, Refusal, Rendered, Settings, Sizes, Span};
 
 /// The most rows of a report.
 const ROWS: usize = 1_024;
@@ -77,9 +77,20 @@ impl Report {
     /// The file as a new row at a place, 0 to the number of rows. The limits are those of the call on the new row, which alone is solved, and so
     /// are the counts; of a page's needs, output and spans are the whole page's. A place that is not there is refused by 23, and by 24 where the
     /// report has 1,024 rows.
-    pub fn insert(&mut self, place: usize, file: &[u8], limits: &Limits) -> Result<Page<'_>, Refusal> {
+    ///
+    /// Where memory grows, the desk is charged as if it had been there from the start: for the last time that the step is taken.
+    pub fn insert(
+        &mut self,
+        desk: u32,
+        desks: &mut Desks,
+        place: usize,
+        file: &[u8],
+        limits: &Limits,
+    ) -> Result<Page<'_>, Refusal> {
         self.make_room_for(file);
+        let before = *desks;
         loop {
+            *desks = before;
             let sizes = self.printer.sizes;
             let (tables, solver, row_output, row_spans) = self.printer.lend();
             let report = ReportMemory {
@@ -90,8 +101,9 @@ impl Report {
                 marks: &mut self.marks,
             };
             let (output, spans) = (&mut self.output, &mut self.spans);
-            let done =
-                insert_lent(place, file, &sizes, limits, report, output, spans, tables, solver, row_output, row_spans);
+            let done = insert_lent(
+                desk, desks, place, file, &sizes, limits, report, output, spans, tables, solver, row_output, row_spans,
+            );
             match done {
                 Err(refusal) if self.grown_for(&refusal) => {}
                 done => return self.told(done),
@@ -99,9 +111,9 @@ impl Report {
         }
     }
 
-    /// The row at a place taken away. Nothing is solved: all counts are 0. A place that is not there is refused by 23; nothing else is, since the
-    /// page gets no longer.
-    pub fn remove(&mut self, place: usize) -> Result<Page<'_>, Refusal> {
+    /// The row at a place taken away. Nothing is solved: all counts are 0, and a desk that may do no work may remove. A place that is not there is
+    /// refused by 23, a desk above 7 by 28; nothing else is, since the page gets no longer.
+    pub fn remove(&mut self, desk: u32, desks: &mut Desks, place: usize) -> Result<Page<'_>, Refusal> {
         let report = ReportMemory {
             head: &mut self.head,
             table: &mut self.table,
@@ -109,7 +121,7 @@ impl Report {
             pages: &mut self.pages,
             marks: &mut self.marks,
         };
-        let done = remove_lent(place, &self.printer.sizes, report, &mut self.output, &mut self.spans);
+        let done = remove_lent(desk, desks, place, &self.printer.sizes, report, &mut self.output, &mut self.spans);
         self.told(done)
     }
 

@@ -2,7 +2,7 @@
 
 use crate::lent::{told, Rendered, SolverMemory, TableMemory};
 use crate::raw;
-use crate::{Counts, Limits, Refusal, Settings, Sizes};
+use crate::{Counts, Desks, Limits, Refusal, Settings, Sizes};
 
 /// The memory of a live report, which is no working memory: it holds the report from step to step, and nothing else may write to it.
 ///
@@ -38,6 +38,8 @@ pub fn open_lent(settings: &Settings, head: &mut [u32; 5]) -> Result<(), Refusal
 /// on the new row, which puts its page into `row_output` and `row_spans`: as long as output and spans must be, and working memory.
 #[allow(clippy::too_many_arguments)]
 pub fn insert_lent(
+    desk: u32,
+    desks: &mut Desks,
     place: usize,
     file: &[u8],
     sizes: &Sizes,
@@ -51,13 +53,30 @@ pub fn insert_lent(
     row_spans: &mut [[u64; 4]],
 ) -> Result<Rendered, Refusal> {
     let mut answer = [0; 26];
-    insert_words(place, file, sizes, limits, report, output, spans, tables, solver, row_output, row_spans, &mut answer);
+    insert_words(
+        desk,
+        desks,
+        place,
+        file,
+        sizes,
+        limits,
+        report,
+        output,
+        spans,
+        tables,
+        solver,
+        row_output,
+        row_spans,
+        &mut answer,
+    );
     told(&answer)
 }
 
 /// The same call with its answer as words, as [`render_words`](crate::render_words) has it.
 #[allow(clippy::too_many_arguments)]
 pub fn insert_words(
+    desk: u32,
+    desks: &mut Desks,
     place: usize,
     file: &[u8],
     sizes: &Sizes,
@@ -74,6 +93,8 @@ pub fn insert_words(
     // SAFETY: as in `render_lent`.
     unsafe {
         raw::gannozhi_report_insert(
+            desk,
+            desks,
             place,
             file.as_ptr(),
             file.len(),
@@ -132,8 +153,12 @@ pub fn insert_words(
     }
 }
 
-/// The row at a place taken away, and the whole page in output and spans. Nothing is solved; of the sizes output and spans are looked at.
+/// The row at a place taken away, and the whole page in output and spans. Nothing is solved, so it needs no allowance and alters no spent count;
+/// of the sizes output and spans are looked at.
+#[allow(clippy::too_many_arguments)]
 pub fn remove_lent(
+    desk: u32,
+    desks: &mut Desks,
     place: usize,
     sizes: &Sizes,
     report: ReportMemory,
@@ -141,12 +166,15 @@ pub fn remove_lent(
     spans: &mut [[u64; 4]],
 ) -> Result<Rendered, Refusal> {
     let mut answer = [0; 26];
-    remove_words(place, sizes, report, output, spans, &mut answer);
+    remove_words(desk, desks, place, sizes, report, output, spans, &mut answer);
     told(&answer)
 }
 
 /// The same call with its answer as words.
+#[allow(clippy::too_many_arguments)]
 pub fn remove_words(
+    desk: u32,
+    desks: &mut Desks,
     place: usize,
     sizes: &Sizes,
     report: ReportMemory,
@@ -157,6 +185,8 @@ pub fn remove_words(
     // SAFETY: as in `render_lent`.
     unsafe {
         raw::gannozhi_report_remove(
+            desk,
+            desks,
             place,
             &sizes.list(),
             report.head,

@@ -2,23 +2,28 @@
 
 use gannozhi::*;
 
-/// Those of 1 to 22, as in document 01, of 23 and 24, a report's steps, of 25 and of 26.
+/// Those of 1 to 22, as in document 01, of 23 and 24, a report's steps, of 25 and of 26; 27 has none; that of 28.
 const WORDS: &str = "order short form limit surplus reference text space circle list domain work \
-    stack memo kept frontier plans visit depth output spans visits place rows indent cost";
+    stack memo kept frontier plans visit depth output spans visits place rows indent cost  desk";
 
 const FILE: &[u8] = include_bytes!("../../../samples/annotated.prepared");
 const SETTINGS: Settings = Settings { width: 24, newline_cost: 1, policy: 0, rule: 1 };
 const LIMITS: Limits = Limits { work: 1_000_000, visits: 1_000_000 };
 
+/// Every desk may do anything.
+fn all() -> Desks {
+    Desks::all(u64::MAX)
+}
+
 /// The bytes of the page, or the refusal.
 fn page(file: &[u8], settings: Settings, sizes: Sizes, limits: Limits) -> Result<Vec<u8>, Refusal> {
-    Printer::new(sizes).render(file, &settings, &limits).map(|page| page.bytes.to_vec())
+    Printer::new(sizes).render(0, &mut all(), file, &settings, &limits).map(|page| page.bytes.to_vec())
 }
 
 #[test]
 fn words() {
-    assert_eq!((1..=26).map(refusal).collect::<Vec<_>>().join(" "), WORDS);
-    for none in [0, 27, u32::MAX] {
+    assert_eq!((1..=28).map(refusal).collect::<Vec<_>>().join(" "), WORDS);
+    for none in [0, 27, 29, u32::MAX] {
         assert_eq!(refusal(none), "");
     }
 }
@@ -127,7 +132,7 @@ fn too_little_of_each_size() {
     let right = page(FILE, SETTINGS, Sizes::PAGE, LIMITS).unwrap();
     for sizes in [Sizes::PAGE, Sizes::of(LEAST)] {
         let mut printer = Printer::new(sizes);
-        let page = printer.render(FILE, &SETTINGS, &LIMITS).unwrap();
+        let page = printer.render(0, &mut all(), FILE, &SETTINGS, &LIMITS).unwrap();
         assert_eq!((page.bytes, page.needs), (&right[..], Sizes::of(LEAST)));
     }
     for (kind, needed) in LEAST.into_iter().enumerate() {
@@ -149,16 +154,17 @@ fn frontier_at_work() {
         03 01000000 01000000 20 03 01000000 01000000 61 03 02000000 02000000 6262",
     );
     let mut printer = Printer::new(Sizes::PAGE);
-    let page = printer.render(&file, &SETTINGS, &LIMITS).unwrap();
+    let page = printer.render(0, &mut all(), &file, &SETTINGS, &LIMITS).unwrap();
     assert_eq!((page.counts.peak_frontier, page.needs.list()), (1, [5, 6, 6, 2, 5, 1, 0, 0, 0]));
     let less = Sizes { frontier: 1, ..page.needs };
-    let refused = Printer::new(less).render(&file, &SETTINGS, &LIMITS).unwrap_err();
+    let refused = Printer::new(less).render(0, &mut all(), &file, &SETTINGS, &LIMITS).unwrap_err();
     assert_eq!(refused.to_string(), "refused 16 frontier, needed 2");
 }
 
 #[test]
 fn limits() {
-    let Counts { work, visits, .. } = Printer::new(Sizes::PAGE).render(FILE, &SETTINGS, &LIMITS).unwrap().counts;
+    let mut printer = Printer::new(Sizes::PAGE);
+    let Counts { work, visits, .. } = printer.render(0, &mut all(), FILE, &SETTINGS, &LIMITS).unwrap().counts;
     assert!(page(FILE, SETTINGS, Sizes::PAGE, Limits { work, visits }).is_ok());
     for less in [1, work] {
         let refused = page(FILE, SETTINGS, Sizes::PAGE, Limits { work: work - less, visits }).unwrap_err();
@@ -200,8 +206,12 @@ fn lent(
     };
     // Dirty, so that a word that is not written shows.
     let mut answer = [u64::MAX; 26];
-    let number = render_words(file, settings, sizes, limits, tables, solver, output, spans, &mut answer);
+    let mut desks = all();
+    let number = render_words(0, &mut desks, file, settings, sizes, limits, tables, solver, output, spans, &mut answer);
     assert_eq!(u64::from(number), answer[0]);
+    let mut charged = all();
+    charged.spent[0] = answer[7];
+    assert_eq!(desks, charged);
     answer
 }
 

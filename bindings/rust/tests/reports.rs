@@ -10,6 +10,11 @@ const SETTINGS: Settings = Settings { width: 24, newline_cost: 3, policy: 0, rul
 const LIMITS: Limits = Limits { work: 1_000_000, visits: 1_000_000 };
 const MOST: Sizes = Sizes { output: 1 << 20, spans: 1 << 14, ..Sizes::PAGE };
 
+/// Every desk may do anything.
+fn all() -> Desks {
+    Desks::all(u64::MAX)
+}
+
 fn sample(name: &str) -> Vec<u8> {
     let path = Path::new(env!("CARGO_MANIFEST_DIR")).join("../../samples").join(format!("{name}.prepared"));
     fs::read(&path).unwrap_or_else(|why| panic!("{}: {why}", path.display()))
@@ -39,7 +44,7 @@ fn stacked(rows: &[Vec<u8>]) -> Whole {
         }
         let (start, first) = (bytes.len(), spans.len());
         let mut printer = Printer::new(Sizes::PAGE);
-        let page = printer.render(file, &SETTINGS, &LIMITS).unwrap();
+        let page = printer.render(0, &mut all(), file, &SETTINGS, &LIMITS).unwrap();
         bytes.extend(page.bytes);
         spans.extend(page.spans().map(|span| Span {
             start: start + span.start,
@@ -73,8 +78,8 @@ fn samples_come_and_go() {
         let (file, place) = (sample(name), step * 5 % (rows.len() + 1));
         rows.insert(place, file.clone());
         let mut alone = Printer::new(Sizes::PAGE);
-        let own = alone.render(&file, &SETTINGS, &LIMITS).unwrap();
-        let page = report.insert(place, &file, &LIMITS).unwrap();
+        let own = alone.render(0, &mut all(), &file, &SETTINGS, &LIMITS).unwrap();
+        let page = report.insert(0, &mut all(), place, &file, &LIMITS).unwrap();
         assert_eq!(whole(&page), stacked(&rows), "{name}");
         // Only the new row is solved.
         assert_eq!(page.counts, own.counts, "{name}");
@@ -85,7 +90,7 @@ fn samples_come_and_go() {
     while !rows.is_empty() {
         let place = rows.len() / 2;
         rows.remove(place);
-        let page = report.remove(place).unwrap();
+        let page = report.remove(0, &mut all(), place).unwrap();
         assert_eq!((whole(&page), page.counts), (stacked(&rows), Counts::default()));
         let (output, spans) = (page.bytes.len() as u32, page.spans().len() as u32);
         assert_eq!(page.needs, Sizes::of([0, 0, 0, 0, 0, 0, 0, output, spans]));
@@ -115,7 +120,7 @@ fn settings() {
 #[test]
 fn a_refused_step_alters_nothing() {
     let mut report = Report::open(&SETTINGS, Sizes { output: 40, spans: 3, ..Sizes::PAGE }).unwrap();
-    report.insert(0, &sample("annotated"), &LIMITS).unwrap();
+    report.insert(0, &mut all(), 0, &sample("annotated"), &LIMITS).unwrap();
     let before = shown(&report);
     assert_eq!((before.1.len(), before.2.len()), (36, 3));
     let annotated = sample("annotated");
@@ -130,18 +135,18 @@ fn a_refused_step_alters_nothing() {
         (0, text("four"), LIMITS, "refused 20 output, needed 41"),
         (1, annotated, LIMITS, "refused 20 output, needed 73"),
     ] {
-        let refused = report.insert(place, &file, &limits).unwrap_err();
+        let refused = report.insert(0, &mut all(), place, &file, &limits).unwrap_err();
         assert_eq!(refused.to_string(), said);
         assert_eq!(shown(&report), before);
     }
-    assert_eq!(report.remove(1).unwrap_err().to_string(), "refused 23 place");
+    assert_eq!(report.remove(0, &mut all(), 1).unwrap_err().to_string(), "refused 23 place");
     assert_eq!(shown(&report), before);
-    assert_eq!(report.insert(1, &text("abc"), &LIMITS).unwrap().bytes.len(), 40);
-    assert_eq!(report.remove(0).unwrap().bytes, b"abc");
+    assert_eq!(report.insert(0, &mut all(), 1, &text("abc"), &LIMITS).unwrap().bytes.len(), 40);
+    assert_eq!(report.remove(0, &mut all(), 0).unwrap().bytes, b"abc");
 
     let mut report = Report::open(&SETTINGS, Sizes { spans: 5, ..MOST }).unwrap();
-    report.insert(0, &sample("annotated"), &LIMITS).unwrap();
-    let refused = report.insert(1, &sample("annotated"), &LIMITS).unwrap_err();
+    report.insert(0, &mut all(), 0, &sample("annotated"), &LIMITS).unwrap();
+    let refused = report.insert(0, &mut all(), 1, &sample("annotated"), &LIMITS).unwrap_err();
     assert_eq!((refused.to_string().as_str(), refused.counts.work > 0), ("refused 21 spans, needed 6", true));
 }
 
@@ -150,24 +155,30 @@ fn a_refused_step_alters_nothing() {
 fn grows() {
     let few = Sizes::of([4; 9]);
     let mut report = Report::open(&SETTINGS, few).unwrap();
-    let refused = report.insert(0, &sample("annotated"), &LIMITS).unwrap_err();
+    let refused = report.insert(0, &mut all(), 0, &sample("annotated"), &LIMITS).unwrap_err();
     assert!((13..22).contains(&refused.number) && refused.needed > 4, "{refused}");
-    assert_eq!(report.insert(0, &text("abcd"), &LIMITS).unwrap().bytes, b"abcd");
-    assert_eq!(report.insert(0, &text("a"), &LIMITS).unwrap_err().to_string(), "refused 20 output, needed 6");
+    assert_eq!(report.insert(0, &mut all(), 0, &text("abcd"), &LIMITS).unwrap().bytes, b"abcd");
+    assert_eq!(
+        report.insert(0, &mut all(), 0, &text("a"), &LIMITS).unwrap_err().to_string(),
+        "refused 20 output, needed 6"
+    );
 
     // A page of more bytes than those of `page`, of texts and of lines.
     let mut report = Report::open(&SETTINGS, MOST).unwrap();
     let (long, mut rows) = (text(&"y".repeat(20_000)), 0);
     for _ in 0..5 {
-        let page = report.insert(rows, &long, &LIMITS).unwrap();
+        let page = report.insert(0, &mut all(), rows, &long, &LIMITS).unwrap();
         assert_eq!(page.bytes.len(), 20_001 * (rows + 1) - 1);
         rows += 1;
     }
     // 600 Aligns, one in the other, need 601 tasks.
     let deep = sample("too-deep");
-    assert_eq!(report.insert(0, &deep, &LIMITS).unwrap_err().to_string(), "refused 13 stack, needed 513");
+    assert_eq!(
+        report.insert(0, &mut all(), 0, &deep, &LIMITS).unwrap_err().to_string(),
+        "refused 13 stack, needed 513"
+    );
     let mut report = Report::open(&SETTINGS, Sizes { stack: 1 << 12, ..MOST }).unwrap();
-    let page = report.insert(0, &deep, &LIMITS).unwrap();
+    let page = report.insert(0, &mut all(), 0, &deep, &LIMITS).unwrap();
     assert_eq!(page.needs.stack, 601);
 }
 
@@ -175,20 +186,23 @@ fn grows() {
 fn full() {
     let mut report = Report::open(&SETTINGS, MOST).unwrap();
     for row in 0..1_024 {
-        let page = report.insert(row, &text("a"), &LIMITS).unwrap();
+        let page = report.insert(0, &mut all(), row, &text("a"), &LIMITS).unwrap();
         assert_eq!((page.bytes.len(), page.burden), (2 * row + 1, 3 * row as u64));
     }
     for (place, said) in [(1_025, "refused 23 place"), (1_024, "refused 24 rows"), (0, "refused 24 rows")] {
         for file in [text("a"), vec![]] {
-            assert_eq!(report.insert(place, &file, &LIMITS).unwrap_err().to_string(), said);
+            assert_eq!(report.insert(0, &mut all(), place, &file, &LIMITS).unwrap_err().to_string(), said);
         }
     }
-    report.remove(1_023).unwrap();
-    assert_eq!(report.insert(0, &text("b"), &LIMITS).unwrap().bytes[..3], *b"b\na");
+    report.remove(0, &mut all(), 1_023).unwrap();
+    assert_eq!(report.insert(0, &mut all(), 0, &text("b"), &LIMITS).unwrap().bytes[..3], *b"b\na");
     for left in (0..1_024).rev() {
-        assert_eq!(report.remove(left / 3).unwrap().bytes.len(), (2 * left).saturating_sub(usize::from(left > 0)));
+        assert_eq!(
+            report.remove(0, &mut all(), left / 3).unwrap().bytes.len(),
+            (2 * left).saturating_sub(usize::from(left > 0))
+        );
     }
-    assert_eq!(report.remove(0).unwrap_err().to_string(), "refused 23 place");
+    assert_eq!(report.remove(0, &mut all(), 0).unwrap_err().to_string(), "refused 23 place");
 }
 
 /// A report in the caller's own memory: what stands past it stays out of it, and words that no step has written are read as they stand.
@@ -208,6 +222,8 @@ fn lent() {
     macro_rules! insert {
         ($place:expr, $text:expr) => {
             insert_lent(
+                0,
+                &mut all(),
                 $place,
                 &text($text),
                 &sizes,
@@ -250,7 +266,7 @@ fn lent() {
     assert_eq!(&output, b"a\nc\nbxxxx");
     // A cost that no row has: read as it stands.
     table[1][5] = u64::MAX - 5;
-    assert_eq!(remove_lent(0, &sizes, held!(), &mut output, &mut spans).unwrap().burden, u64::MAX - 2);
+    assert_eq!(remove_lent(0, &mut all(), 0, &sizes, held!(), &mut output, &mut spans).unwrap().burden, u64::MAX - 2);
     table[1][5] = 3;
     assert_eq!(insert!(0, "d").unwrap_err().to_string(), "refused 26 cost");
     assert_eq!((&output, head[0]), (b"c\nb\nbxxxx", 2));
@@ -258,8 +274,8 @@ fn lent() {
     table[0][0] = u64::MAX;
     table[1][0] = 36;
     let before = (head, table, files, pages);
-    let refused = remove_lent(0, &sizes, held!(), &mut output, &mut spans).unwrap_err();
+    let refused = remove_lent(0, &mut all(), 0, &sizes, held!(), &mut output, &mut spans).unwrap_err();
     assert_eq!((refused.number, (head, table, files, pages)), (1, before));
     head[0] = 1_025;
-    assert_eq!(remove_lent(0, &sizes, held!(), &mut output, &mut spans).unwrap_err().number, 1);
+    assert_eq!(remove_lent(0, &mut all(), 0, &sizes, held!(), &mut output, &mut spans).unwrap_err().number, 1);
 }

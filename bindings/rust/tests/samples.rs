@@ -4,7 +4,9 @@ use std::collections::BTreeSet;
 use std::fs;
 use std::path::{Path, PathBuf};
 
-use gannozhi::{read_lent, write_lent, FileTables, Limits, Page, Printer, Refusal, Settings, Sizes, TableMemory};
+use gannozhi::{
+    read_lent, write_lent, Desks, FileTables, Limits, Page, Printer, Refusal, Settings, Sizes, TableMemory,
+};
 
 struct Sample {
     name: String,
@@ -87,7 +89,7 @@ fn page_and_spans() {
     for Sample { name, input, prepared, page, spans } in samples() {
         let limits = Limits { work: 1_000_000, visits: 1_000_000 };
         let settings = setting(&input).0;
-        let answer = printer.render(&prepared, &settings, &limits);
+        let answer = printer.render(0, &mut Desks::all(u64::MAX), &prepared, &settings, &limits);
         assert!(written(&answer) == page, "{name}: {}", String::from_utf8_lossy(&written(&answer)));
         let list: Vec<_> = answer.iter().flat_map(Page::spans).collect();
         assert_eq!(list.iter().map(|span| format!("{span}\n")).collect::<String>(), spans, "{name}");
@@ -107,7 +109,7 @@ fn needs() {
     // What comes under these sizes: all of a page, or the refusal.
     let answer = |sizes: Sizes, file: &[u8], settings: &Settings| {
         let mut printer = Printer::new(sizes);
-        let answer = printer.render(file, settings, &limits);
+        let answer = printer.render(0, &mut Desks::all(u64::MAX), file, settings, &limits);
         let bytes = written(&answer);
         answer.map(|page| (bytes, page.spans().collect::<Vec<_>>(), page.counts, page.needs))
     };

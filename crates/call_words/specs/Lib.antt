@@ -1,2 +1,3 @@
 pub mod Words
 pub mod Heads
+pub mod Accounts

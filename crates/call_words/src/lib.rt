@@ -3,6 +3,7 @@ ghost use mathlib.Core.Path.{_≡_};
 ghost use lib.ListN.{getD};
 ghost use Rattle.call_words.specs.Words.{words, bounds};
 
+pub mod accounts;
 pub mod heads;
 
 use render::page::Rendered;

@@ -9,9 +9,12 @@ ghost use Rattle.gannozhi.specs.Words.{options, Answered, read-number, r
 
 pub mod live;
 
+use call_words::accounts::desk_words;
+use call_words::accounts::desks_of;
 use call_words::answer_number;
 use call_words::answer_words;
 use call_words::bounds_of;
+use desk_call::render_for;
 use file_tables::NodeId;
 use file_tables::TextId;
 use prepare::read::Answer;
@@ -19,12 +22,13 @@ use prepare::read::read;
 use prepare::write::FileCounts;
 use prepare::write::Outcome;
 use prepare::write::write;
-use render::call::render_core;
 use solve_workspace::RenderOptions;
 
-// A file's page, or why there is none.
+// A file's page for a desk, or why there is none. The words of the desks are eight allowances, then eight spent counts, kept between calls.
 #[no_mangle]
 pub extern "C" fn gannozhi_render(
+    desk: u32,
+    desks: &mut [u64; 16],
     file: &[u8],
     width: u32,
     newline_cost: u32,
@@ -52,7 +56,7 @@ pub extern "C" fn gannozhi_render(
     spans: &mut [[u64; 4]],
     answer: &mut [u64; 26],
 ) -> u32
-    ensures { λ r. ⌜ Answered (now (file .entry)) (options width «newline_cost» policy rule) (bounds (now (sizes .entry)) «work_limit» «visit_limit») (lengths (now (nodes .entry)) (now (edges .entry)) (now (choices .entry)) (now (texts .entry)) (now (bytes .entry)) (now (tasks .entry)) (now (results .entry)) (now (pending .entry)) (now (index .entry)) (now (entries .entry)) (now (kept .entry)) (now (frontier .entry)) (now (plans .entry)) (now (visit .entry)) (now (depth .entry)) (now (output .entry)) (now (spans .entry))) (now (output .entry)) (now (output .exit)) (now (spans .entry)) (now (spans .exit)) (now (answer .exit)) r ⌝ }
+    ensures { λ r. ⌜ Answered desk (now (desks .entry)) (now (desks .exit)) (now (file .entry)) (options width «newline_cost» policy rule) (bounds (now (sizes .entry)) «work_limit» «visit_limit») (lengths (now (nodes .entry)) (now (edges .entry)) (now (choices .entry)) (now (texts .entry)) (now (bytes .entry)) (now (tasks .entry)) (now (results .entry)) (now (pending .entry)) (now (index .entry)) (now (entries .entry)) (now (kept .entry)) (now (frontier .entry)) (now (plans .entry)) (now (visit .entry)) (now (depth .entry)) (now (output .entry)) (now (spans .entry))) (now (output .entry)) (now (output .exit)) (now (spans .entry)) (now (spans .exit)) (now (answer .exit)) r ⌝ }
 {
     let o = RenderOptions {
         width: width,
@@ -61,7 +65,10 @@ pub extern "C" fn gannozhi_render(
         rule: rule,
     };
     let b = bounds_of(*sizes, work_limit, visit_limit);
-    let r = render_core(
+    let d = desks_of(*desks);
+    let r = render_for(
+        desk,
+        d,
         file,
         o,
         b,
@@ -83,8 +90,11 @@ pub extern "C" fn gannozhi_render(
         output,
         spans,
     );
-    *answer = answer_words(r);
-    answer_number(r)
+    let a = r.answer;
+    let e = r.desks;
+    *desks = desk_words(e);
+    *answer = answer_words(a);
+    answer_number(a)
 }
 
 // ---- reader and writer

@@ -5,7 +5,6 @@ use Prim.Native.Nat.{ℕ, zero, suc, _≤_}
 use native.Mathlib.Omega.{arith}
 use lib.ListN.{length, take, drop, getD, length-map}
 use Rattle.layout.specs.Spans.{Span}
-use Rattle.stats.specs.declared.SolveStats.{SolveStats}
 use Rattle.spans.specs.declared.AnnotationSpan.{AnnotationSpan}
 use Rattle.spans.specs.declared.Parent.{Parent}
 use Rattle.spans.specs.declared.Parent.the-variants.{Nothing, Span as Inside}
@@ -13,17 +12,25 @@ use Rattle.spans.specs.Spans.{parentOf}
 use Rattle.solve_workspace.specs.declared.Bounds.{Bounds}
 use Rattle.solve_workspace.specs.declared.RenderOptions.{RenderOptions}
 use Rattle.materialize.specs.Rows.{Row, parent-word}
+use Rattle.render.specs.declared.page.Rendered.{Rendered}
 use Rattle.render.specs.declared.page.Rendered.the-variants.{Refused as Denial}
 use Rattle.render.specs.declared.page.Drafted.{Drafted}
 use Rattle.render.specs.declared.page.Drafted.the-variants.{Page as Drawing, Refused as Denied}
 use Rattle.render.specs.declared.order.Lengths.{Lengths}
-use Rattle.render.specs.Rendered.{parent-of, span-of, meant, Front}
+use Rattle.render.specs.Rendered.{parent-of, span-of, Front}
 use Rattle.render.specs.Drafts.{page-of}
-use Rattle.render.specs.Call.{Rendering, Drafting}
+use Rattle.render.specs.Call.{settings}
+use Rattle.desks.specs.declared.Desks.{Desks}
+use Rattle.desks.specs.declared.SharedRecord.{SharedRecord}
+use Rattle.desks.specs.Desks.{remaining}
+use Rattle.desks.specs.Lent.{settled}
+use Rattle.desks.specs.Layer.{work-left}
+use Rattle.desks.specs.Kinds.{single-steady}
+use Rattle.desks.specs.Calls.{DeskRendering, DeskDrafting}
 use Rattle.printer.specs.declared.Outcome.{Outcome}
-use Rattle.printer.specs.Printed.{answered, spans-of, bytes-of, Right, Printed}
+use Rattle.printer.specs.Printed.{Printed}
 use Rattle.records.specs.Records.{parent-in, span-in, row-in, rows-in}
-use Rattle.printer.specs.Delivered.{Deliverable, Delivered}
+use Rattle.printer.specs.Delivered.{outcome, counts-first, counts-last, WroteOf, DeliverableOf, Deliverable, Delivered}
 
 -- ---- a record, as a row and back
 
@@ -76,52 +83,59 @@ front-back {n} {k} {l} f = record {
 
 -- ---- a call
 
-module _ {file : List ℕ} {o : RenderOptions} {b : Bounds} {l : Lengths} {plans texts : List Row} {bytes : List ℕ} where
+-- the answer of what is drafted, once it is written
+abbrev answer-in : Drafted → Rendered
+answer-in (Drawing d) = page-of d
+answer-in (Denied n needed k) = Denial n needed k
+
+rendering : {n : ℕ} {D : Desks} {file : List ℕ} {o : RenderOptions} {b : Bounds} {l : Lengths} {plans texts : List Row} {bytes output₀ output : List ℕ} (spans₀ spans : List AnnotationSpan) (r : Drafted) → DeskDrafting n D file o b l plans texts bytes r
+    → length output ≡ length output₀ → length spans ≡ length spans₀ → WroteOf plans texts bytes output₀ output spans₀ spans r → DeskRendering n D file o b l output₀ output (rows-in spans₀) (rows-in spans) (answer-in r)
+rendering {output₀ = output₀} {output = output} spans₀ spans (Drawing d) x e f y = x .half .by .1 .by output₀ output (rows-in spans₀) (rows-in spans) e (length-map spans row-in ∙ f ∙ sym (length-map spans₀ row-in)) y
+rendering {output₀ = output₀} spans₀ spans (Denied m needed k) x e f y = rw (y .0, y .1) (x .half .by output₀ (rows-in spans₀))
+
+-- its work is no more than the desk may do
+spends : {n : ℕ} {D : Desks} {file : List ℕ} {o : RenderOptions} {b : Bounds} {l : Lengths} {output₀ output : List ℕ} {rows₀ rows : List Row} (r : Drafted) → DeskRendering n D file o b l output₀ output rows₀ rows (answer-in r) → counts-first r .«work_items» ≤ remaining D n
+spends {file = file} {o = o} (Drawing d) R = work-left (single-steady file (settings o)) (R .right .serving .answers)
+spends {file = file} {o = o} (Denied m needed k) R = work-left (single-steady file (settings o)) (R .right .serving .answers)
+
+module _ {n : ℕ} {before : SharedRecord} {file : List ℕ} {o : RenderOptions} {b : Bounds} {l : Lengths} {plans texts : List Row} {bytes : List ℕ} where
   -- what `finish` asks
-  pub deliverable : (r : Drafted) {visit depth output : List ℕ} {spans : List AnnotationSpan} → Drafting file o b l plans texts bytes r
-      → l .visit ≡ length visit → l .depth ≡ length depth → l .output ≡ length output → l .spans ≡ length spans → Deliverable b r plans texts bytes visit depth output spans
-  deliverable (Drawing d) {spans = spans} x v h w s =
-      let n = length-map spans row-in in
-      let p = x .lent d refl in
-      record {
-        by = (
-          x .half .by .0,
-          record {
-            small = x .half .by .0 .small;
-            visit-lent = omega (arith, p .visit, v);
-            depth-lent = omega (arith, p .depth, h);
-            output-lent = omega (arith, p .output, w);
-            spans-lent = omega (arith, p .spans, s, n);
-          },
-        );
-      }
-  deliverable (Denied n needed k) x v h w s = record { by = tt }
+  pub deliverable : (r : Drafted) {visit depth output : List ℕ} {spans : List AnnotationSpan} → DeskDrafting n (before .desks) file o b l plans texts bytes r
+      → l .visit ≡ length visit → l .depth ≡ length depth → l .output ≡ length output → l .spans ≡ length spans → Deliverable n before b r plans texts bytes visit depth output spans
+  deliverable r {visit} {depth} {output} {spans} x v h w c = record { by = writes r x; work-left = λ output′ spans′ e f y. spends r (rendering spans spans′ r x e f y) }
+    where
+      writes : (t : Drafted) → DeskDrafting n (before .desks) file o b l plans texts bytes t → DeliverableOf b plans texts bytes visit depth output spans t
+      writes (Drawing d) y =
+          let p = y .lent d refl in (
+            y .half .by .0,
+            record {
+              small = y .half .by .0 .small;
+              visit-lent = omega (arith, p .visit, v);
+              depth-lent = omega (arith, p .depth, h);
+              output-lent = omega (arith, p .output, w);
+              spans-lent = omega (arith, p .spans, c, length-map spans row-in);
+            },
+          )
+      writes (Denied m needed k) y = tt
 
   -- the whole call's promise
-  pub printed : {output₀ output : List ℕ} {spans₀ spans : List AnnotationSpan} {stats : SolveStats} {z : Outcome} (r : Drafted)
-      → Drafting file o b l plans texts bytes r → length output ≡ length output₀ → length spans ≡ length spans₀ → Delivered r plans texts bytes output₀ output spans₀ spans stats z
-      → Printed file o b l output₀ output spans₀ spans stats z
-  printed {output₀} {output} {spans₀} {spans} {stats} {z} (Drawing d) x n m y = record {
-    right = subst (Right file o b l) (sym is) (record { answers = R .answers; promised = R .promised; same-page = R .same-page; needs-within = R .needs-within; just-suffices = R .just-suffices; none-less = R .none-less });
-    output-is = subst (λ (u : Outcome). Front (bytes-of u) output₀ output) (sym (y .outcome-is)) (R .stands .output-is);
-    spans-are = subst (λ (u : Outcome). Front (spans-of u) spans₀ spans) (sym (y .outcome-is)) (front-back (R .stands .rows-are));
-    no-fit-checks = ap (λ (s : SolveStats). s .«fit_checks») (y .counts-are);
-  }
+  pub printed : {output₀ output : List ℕ} {spans₀ spans : List AnnotationSpan} {after : SharedRecord} {z : Outcome} (r : Drafted) → DeskDrafting n (before .desks) file o b l plans texts bytes r
+      → length output ≡ length output₀ → length spans ≡ length spans₀ → Delivered n before r plans texts bytes output₀ output spans₀ spans after z
+      → Printed n before file o b l output₀ output spans₀ spans after z
+  printed {output₀} {output} {spans₀} {spans} {after} {z} r x e f y =
+      subst (λ (u : SharedRecord). Printed n before file o b l output₀ output spans₀ spans u z) (sym (y .record-is))
+      (subst (λ (u : Outcome). Printed n before file o b l output₀ output spans₀ spans (settled before n (counts-last r)) u) (sym (y .outcome-is)) (of r (rendering spans₀ spans r x e f (y .wrote))))
     where
-      R : Rendering file o b l output₀ output (rows-in spans₀) (rows-in spans) (page-of d)
-      R = x .half .by .1 .by output₀ output (rows-in spans₀) (rows-in spans) n (length-map spans row-in ∙ m ∙ sym (length-map spans₀ row-in)) (y .wrote)
-
-      is : answered z stats output spans ≡ meant (page-of d) output (rows-in spans)
-      is = rw (y .outcome-is, y .counts-are, spans-there (d .spans) spans) refl
-  printed {output₀} {output} {spans₀} {spans} {stats} {z} (Denied n needed k) x e m y = record {
-    right = subst (Right file o b l) (sym is) (record { answers = R .answers; promised = R .promised; same-page = R .same-page; needs-within = R .needs-within; just-suffices = R .just-suffices; none-less = R .none-less });
-    output-is = subst (λ (u : Outcome). Front (bytes-of u) output₀ output) (sym (y .outcome-is)) (subst (λ (t : List ℕ). Front 0 output₀ t) (sym (y .wrote .0)) (R .stands .output-is));
-    spans-are = subst (λ (u : Outcome). Front (spans-of u) spans₀ spans) (sym (y .outcome-is)) (subst (λ (t : List AnnotationSpan). Front 0 spans₀ t) (sym (y .wrote .1)) (front-back (R .stands .rows-are)));
-    no-fit-checks = ap (λ (s : SolveStats). s .«fit_checks») (y .counts-are) ∙ R .stands .no-fit-checks;
-  }
-    where
-      R : Rendering file o b l output₀ output₀ (rows-in spans₀) (rows-in spans₀) (Denial n needed k)
-      R = x .half .by output₀ (rows-in spans₀)
-
-      is : answered z stats output spans ≡ meant (Denial n needed k) output₀ (rows-in spans₀)
-      is = rw (y .outcome-is, y .counts-are) refl
+      of : (t : Drafted) → DeskRendering n (before .desks) file o b l output₀ output (rows-in spans₀) (rows-in spans) (answer-in t) → Printed n before file o b l output₀ output spans₀ spans (settled before n (counts-last t)) (outcome t)
+      of (Drawing d) R = record {
+        right = rw (← spans-there (d .spans) spans) (R .right);
+        output-is = R .stands .output-is;
+        spans-are = front-back (R .stands .rows-are);
+        no-fit-checks = refl;
+      }
+      of (Denied m needed k) R = record {
+        right = R .right;
+        output-is = R .stands .output-is;
+        spans-are = front-back (R .stands .rows-are);
+        no-fit-checks = R .stands .no-fit-checks;
+      }

@@ -1,4 +1,5 @@
 pub mod Deliveries
+pub mod Made
 pub mod Parts
 pub mod Second
 pub mod Shared

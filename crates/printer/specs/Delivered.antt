@@ -1,7 +1,7 @@
 -- The second half of a call, in the caller's records: what it begins with, what it may rely on, and what it leaves.
 use mathlib.Core.Path.{_≡_}
 use mathlib.Core.List.{List}
-use Prim.Native.Nat.{ℕ, _+_, _<_}
+use Prim.Native.Nat.{ℕ, _+_, _≤_, _<_}
 use lib.ListN.{length, set}
 use Rattle.stats.specs.declared.SolveStats.{SolveStats}
 use Rattle.spans.specs.declared.AnnotationSpan.{AnnotationSpan}
@@ -18,6 +18,9 @@ use Rattle.render.specs.declared.page.Drafted.{Drafted}
 use Rattle.render.specs.declared.page.Drafted.the-variants.{Page as Drawing, Refused as Denied}
 use Rattle.render.specs.Rendered.{with-counts}
 use Rattle.render.specs.Drafts.{capacity, chosen, Drawn}
+use Rattle.desks.specs.declared.SharedRecord.{SharedRecord}
+use Rattle.desks.specs.Desks.{remaining}
+use Rattle.desks.specs.Lent.{settled}
 use Rattle.printer.specs.declared.Start.{Start}
 use Rattle.printer.specs.declared.Outcome.{Outcome}
 use Rattle.printer.specs.declared.Outcome.the-variants.{Page, Refused}
@@ -65,20 +68,23 @@ pub record Rooted (a : Drafted) (visit : List ℕ) : Type 0 where
 
 -- ---- the whole half
 
--- a page that can be written, and memory for it
-abbrev pub DeliverableOf : Bounds → List Row → List Row → List ℕ → List ℕ → List ℕ → List ℕ → List AnnotationSpan → Drafted → Type 0
-DeliverableOf b plans texts bytes visit depth output spans (Drawing d) = Drawn b d plans texts bytes × Lent (capacity b) visit depth output (rows-in spans)
-DeliverableOf b plans texts bytes visit depth output spans (Denied n needed k) = Unit {0}
-
-pub record Deliverable (b : Bounds) (a : Drafted) (plans texts : List Row) (bytes visit depth output : List ℕ) (spans : List AnnotationSpan) : Type 0 where
-  pub by : DeliverableOf b plans texts bytes visit depth output spans a
-
 -- a page is written; a refusal alters nothing
 abbrev pub WroteOf : List Row → List Row → List ℕ → List ℕ → List ℕ → List AnnotationSpan → List AnnotationSpan → Drafted → Type 0
 WroteOf plans texts bytes output₀ output spans₀ spans (Drawing d) = Written (chosen d plans texts bytes) output₀ output (rows-in spans₀) (rows-in spans)
 WroteOf plans texts bytes output₀ output spans₀ spans (Denied n needed k) = (output ≡ output₀) × (spans ≡ spans₀)
 
-pub record Delivered (a : Drafted) (plans texts : List Row) (bytes output₀ output : List ℕ) (spans₀ spans : List AnnotationSpan) (stats : SolveStats) (r : Outcome) : Type 0 where
+-- a page that can be written, and memory for it
+abbrev pub DeliverableOf : Bounds → List Row → List Row → List ℕ → List ℕ → List ℕ → List ℕ → List AnnotationSpan → Drafted → Type 0
+DeliverableOf b plans texts bytes visit depth output spans (Drawing d) = Drawn b d plans texts bytes × Lent (capacity b) visit depth output (rows-in spans)
+DeliverableOf b plans texts bytes visit depth output spans (Denied n needed k) = Unit {0}
+
+pub record Deliverable (d : ℕ) (before : SharedRecord) (b : Bounds) (a : Drafted) (plans texts : List Row) (bytes visit depth output : List ℕ) (spans : List AnnotationSpan) : Type 0 where
+  pub by : DeliverableOf b plans texts bytes visit depth output spans a
+  -- once that is done, its work is no more than the desk may do
+  pub work-left : (output′ : List ℕ) (spans′ : List AnnotationSpan) → length output′ ≡ length output → length spans′ ≡ length spans → WroteOf plans texts bytes output output′ spans spans′ a
+      → counts-first a .«work_items» ≤ remaining (before .desks) d
+
+pub record Delivered (d : ℕ) (before : SharedRecord) (a : Drafted) (plans texts : List Row) (bytes output₀ output : List ℕ) (spans₀ spans : List AnnotationSpan) (after : SharedRecord) (r : Outcome) : Type 0 where
   pub outcome-is : r ≡ outcome a
-  pub counts-are : stats ≡ counts-last a
+  pub record-is : after ≡ settled before d (counts-last a)
   pub wrote : WroteOf plans texts bytes output₀ output spans₀ spans a

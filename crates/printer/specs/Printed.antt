@@ -1,27 +1,21 @@
--- What the call promises (document 01, "Calls"), where the caller lends the statistics record and the span records.
+-- What the call promises (document 01, "Calls"; document 02, change 8), where the caller lends the shared record and the span records.
 use mathlib.Core.Path.{_≡_}
 use mathlib.Core.List.{List, map}
-use Prim.Native.Nat.{ℕ, _≤_}
+use Prim.Native.Nat.{ℕ}
 use lib.ListN.{take}
 use Rattle.cost.specs.Value.{value}
-use Rattle.machine.specs.Events.{Kind, size, need-of, with-needs}
-use Rattle.machine.specs.Events.{Counts as Tally}
-use Rattle.machine.specs.Materializer.{Rendered as Page-of}
+use Rattle.machine.specs.Events.{with-needs}
 use Rattle.machine.specs.Answer.{Answer, paged, refused}
-use Rattle.machine.specs.Larger.{Larger}
-use Rattle.machine.specs.Just.{just, Smaller, RefusedBy}
-use Rattle.answer.specs.Answer.{Answers}
-use Rattle.answer.specs.Page.{Promised}
 use Rattle.stats.specs.declared.SolveStats.{SolveStats}
 use Rattle.spans.specs.declared.AnnotationSpan.{AnnotationSpan}
 use Rattle.solve_workspace.specs.declared.Bounds.{Bounds}
 use Rattle.solve_workspace.specs.declared.RenderOptions.{RenderOptions}
-use Rattle.solve_workspace.specs.Meets.{limits, tally, needs-told}
+use Rattle.solve_workspace.specs.Meets.{tally, needs-told}
 use Rattle.records.specs.Records.{span-in}
 use Rattle.render.specs.declared.order.Lengths.{Lengths}
-use Rattle.render.specs.Order.{InOrder}
 use Rattle.render.specs.Rendered.{Front}
-use Rattle.render.specs.Call.{settings}
+use Rattle.desks.specs.declared.SharedRecord.{SharedRecord}
+use Rattle.desks.specs.Calls.{DeskRight}
 use Rattle.printer.specs.declared.Outcome.{Outcome}
 use Rattle.printer.specs.declared.Outcome.the-variants.{Page, Refused}
 
@@ -41,25 +35,11 @@ abbrev pub spans-of : Outcome → ℕ
 spans-of (Page c n m q) = m
 spans-of (Refused n needed) = 0
 
--- ---- what is right
+-- ---- the whole call
 
--- the answer is that of document 01. Where it is a page, that is the page of the first of the cheapest layouts in choice order;
--- and with sizes and limits none smaller, and memory to match, no other answer is right. Its needs are sizes that were lent; with just these, the same limits and memory to match,
--- it is again the one right answer, and with exactly one of them smaller the refusal of that kind is (document 02, change 10)
-pub record Right (file : List ℕ) (o : RenderOptions) (b : Bounds) (l : Lengths) (a : Answer) : Type 0 where
-  pub answers : Answers (InOrder o b l) file (settings o) (limits b) a
-  pub promised : Promised file (settings o) a
-  pub same-page : (p : Page-of) (k : Tally) → a ≡ paged p k → (d : Bounds) (m : Lengths) → Larger (limits b) (limits d) → InOrder o d m
-      → (z : Answer) → Answers (InOrder o d m) file (settings o) (limits d) z → z ≡ paged p k
-  pub needs-within : (p : Page-of) (k : Tally) → a ≡ paged p k → (x : Kind) → need-of (k .needs) x ≤ size (limits b) x
-  pub just-suffices : (p : Page-of) (k : Tally) → a ≡ paged p k → (d : Bounds) (m : Lengths) → limits d ≡ just (k .needs) (limits b) → InOrder o d m
-      → (z : Answer) → Answers (InOrder o d m) file (settings o) (limits d) z → z ≡ paged p k
-  pub none-less : (p : Page-of) (k : Tally) → a ≡ paged p k → (x : Kind) (d : Bounds) (m : Lengths) → Smaller x (k .needs) (limits b) (limits d) → InOrder o d m
-      → (z : Answer) → Answers (InOrder o d m) file (settings o) (limits d) z → RefusedBy x (k .needs) (limits d) z
-
--- the whole call: the answer is right, every count in the lent record included; a page stands at the front of output and span records, and what stood past it is unaltered, on a refusal all of it
-pub record Printed (file : List ℕ) (o : RenderOptions) (b : Bounds) (l : Lengths) (output₀ output : List ℕ) (spans₀ spans : List AnnotationSpan) (stats : SolveStats) (r : Outcome) : Type 0 where
-  pub right : Right file o b l (answered r stats output spans)
+-- the answer is right, every count in the lent record included, and its work is charged (`DeskRight`); a page stands at the front of output and span records, and what stood past it is unaltered, on a refusal all of it
+pub record Printed (d : ℕ) (before : SharedRecord) (file : List ℕ) (o : RenderOptions) (b : Bounds) (l : Lengths) (output₀ output : List ℕ) (spans₀ spans : List AnnotationSpan) (after : SharedRecord) (r : Outcome) : Type 0 where
+  pub right : DeskRight d (before .desks) file o b l (answered r (after .stats) output spans) (after .desks)
   pub output-is : Front (bytes-of r) output₀ output
   pub spans-are : Front (spans-of r) spans₀ spans
-  pub no-fit-checks : stats .«fit_checks» ≡ 0
+  pub no-fit-checks : after .stats .«fit_checks» ≡ 0

@@ -1,16 +1,21 @@
-// The public call in document 01's forms: the caller lends the record of counts and the list of span records, and the materializer's second pass counts, opens and closes in them.
+// The public call in document 01's forms, for a desk (document 02, change 8): the caller lends the shared record and the list of span records, in which the materializer's second pass opens and closes.
 ghost use mathlib.Core.Path.{_≡_};
+ghost use Prim.Native.Nat.{_≤_};
 ghost use Rattle.render.specs.Call.{lengths};
+ghost use Rattle.desks.specs.Desks.{remaining};
+ghost use Rattle.desks.specs.Lent.{settled};
 ghost use Rattle.printer.specs.Printed.{Printed};
 ghost use Rattle.printer.specs.Delivered.{outcome, counts-first, start-of, start-words, Rooted, Deliverable, Delivered};
 use cost::ConsumerCost;
+use desk_call::plan_for;
+use desks::SharedRecord;
+use desks::settled;
 use materialize::Capacity;
 use materialize::Chosen;
 use materialize::Walk;
 use materialize::begin_walk;
 use plan::PlanId;
 use records::write_records;
-use render::call::render_plan;
 use render::page::Drafted;
 use render::page::capacity_of;
 use solve_workspace::Bounds;
@@ -124,8 +129,19 @@ fn begin_page(a: Drafted, b: Bounds, visit: &mut [usize]) -> Start
     }
 }
 
+// What the call answers; its counts go into the record, and its work is charged.
+fn settle(desk: u32, a: Drafted, stats: SolveStats, shared: &mut SharedRecord) -> Outcome
+    requires { ⌜ stats .«work_items» ≤ remaining (now shared .desks) desk ⌝ }
+    ensures { λ r. ⌜ (r ≡ outcome a) × (now (shared .exit) ≡ settled (now (shared .entry)) desk stats) ⌝ }
+{
+    let s = *shared;
+    *shared = settled(s, desk, stats);
+    outcome_of(a)
+}
+
 // The second half of a call: what was chosen and measured is written, in what the caller lends.
 fn finish(
+    desk: u32,
     a: Drafted,
     b: Bounds,
     texts: &[[u32; 3]],
@@ -134,13 +150,13 @@ fn finish(
     visit: &mut [usize],
     depth: &mut [usize],
     output: &mut [u8],
-    stats: &mut SolveStats,
+    shared: &mut SharedRecord,
     spans: &mut [AnnotationSpan],
 ) -> Outcome
-    requires { ⌜ Deliverable b a (now plans) (now texts) (now bytes) (now visit) (now depth) (now output) (now spans) ⌝ }
-    ensures { λ r. ⌜ Delivered a (now (plans .entry)) (now (texts .entry)) (now (bytes .entry)) (now (output .entry)) (now (output .exit)) (now (spans .entry)) (now (spans .exit)) (now (stats .exit)) r ⌝ }
+    requires { ⌜ Deliverable desk (now shared) b a (now plans) (now texts) (now bytes) (now visit) (now depth) (now output) (now spans) ⌝ }
+    ensures { λ r. ⌜ Delivered desk (now (shared .entry)) a (now (plans .entry)) (now (texts .entry)) (now (bytes .entry)) (now (output .entry)) (now (output .exit)) (now (spans .entry)) (now (spans .exit)) (now (shared .exit)) r ⌝ }
 {
-    *stats = counts_of(a);
+    let mut stats = counts_of(a);
     let s = begin_page(a, b, visit);
     write_records(
         s.capacity,
@@ -152,14 +168,15 @@ fn finish(
         visit,
         depth,
         output,
-        stats,
+        &mut stats,
         spans,
     );
-    outcome_of(a)
+    settle(desk, a, stats, shared)
 }
 
-// A file's page, or why there is none. A page goes to the front of `output`, its spans to the front of `spans`; the counts go into `stats`, on a refusal too. All else that is lent by `&mut` is working memory.
+// A file's page, or why there is none, for a desk. A page goes to the front of `output`, its spans to the front of `spans`; the counts go into the record, and the work to the desk's count, on a refusal too. All else that is lent by `&mut` is working memory.
 pub fn render(
+    desk: u32,
     file: &[u8],
     options: RenderOptions,
     b: Bounds,
@@ -179,12 +196,15 @@ pub fn render(
     visit: &mut [usize],
     depth: &mut [usize],
     output: &mut [u8],
-    stats: &mut SolveStats,
+    shared: &mut SharedRecord,
     spans: &mut [AnnotationSpan],
 ) -> Outcome
-    ensures { λ r. ⌜ Printed (now (file .entry)) options b (lengths (now (nodes .entry)) (now (edges .entry)) (now (choices .entry)) (now (texts .entry)) (now (bytes .entry)) (now (tasks .entry)) (now (results .entry)) (now (pending .entry)) (now (index .entry)) (now (entries .entry)) (now (kept .entry)) (now (frontier .entry)) (now (plans .entry)) (now (visit .entry)) (now (depth .entry)) (now (output .entry)) (now (spans .entry))) (now (output .entry)) (now (output .exit)) (now (spans .entry)) (now (spans .exit)) (now (stats .exit)) r ⌝ }
+    ensures { λ r. ⌜ Printed desk (now (shared .entry)) (now (file .entry)) options b (lengths (now (nodes .entry)) (now (edges .entry)) (now (choices .entry)) (now (texts .entry)) (now (bytes .entry)) (now (tasks .entry)) (now (results .entry)) (now (pending .entry)) (now (index .entry)) (now (entries .entry)) (now (kept .entry)) (now (frontier .entry)) (now (plans .entry)) (now (visit .entry)) (now (depth .entry)) (now (output .entry)) (now (spans .entry))) (now (output .entry)) (now (output .exit)) (now (spans .entry)) (now (spans .exit)) (now (shared .exit)) r ⌝ }
 {
-    let a = render_plan(
+    let s = *shared;
+    let a = plan_for(
+        desk,
+        s.desks,
         file,
         options,
         b,
@@ -207,6 +227,7 @@ pub fn render(
         spans.len(),
     );
     finish(
+        desk,
         a,
         b,
         texts,
@@ -215,7 +236,7 @@ pub fn render(
         visit,
         depth,
         output,
-        stats,
+        shared,
         spans,
     )
 }

@@ -2,7 +2,7 @@
 use mathlib.Core.Path.{_≡_, refl, sym, subst}
 use mathlib.Core.Bool.{Bool, true, false, not}
 use mathlib.Core.List.{List}
-use Prim.Native.Nat.{ℕ, _+_, _-_, _≤_}
+use Prim.Native.Nat.{ℕ, zero, suc, _+_, _-_, _≤_}
 use native.Mathlib.Omega.{arith}
 use lib.Dec.{leb}
 use lib.ListN.{take}
@@ -11,6 +11,9 @@ use Rattle.file_checks.specs.Tells.{tell-no, tell-le}
 use Rattle.render.specs.Order.{OptionsRight}
 -- what a test of `!b` says
 pub use Rattle.render.proofs.Ordered.{was-false, was-true}
+use Rattle.desks.specs.Desks.{gate-number as desk-number}
+use Rattle.desks.specs.Calls.{DeskGate, opens as may, order as unordered, desk as no-desk}
+use Rattle.desks.proofs.Calling.{gated as desk-gated}
 use Rattle.report.specs.Memory.{Words, file-length, sum-of, Sound}
 use Rattle.report_rows.specs.Sums.{Summing, sound, unsound}
 use Rattle.report_rows.specs.declared.Totals.{Totals}
@@ -18,14 +21,18 @@ use Rattle.report_rows.specs.declared.Summed.{Summed}
 use Rattle.report_rows.specs.declared.Summed.the-variants.{Sound as Holds, Unsound}
 use Rattle.report_gate.specs.Heads.{options, EmptyHead}
 use Rattle.solve_workspace.specs.declared.RenderOptions.{RenderOptions}
-use Rattle.report_gate.specs.Gates.{FilesRoom, room, IsSound, is, gate-number, Gate, opens, order, place, rows}
+use Rattle.report_gate.specs.Gates.{FilesRoom, room, IsSound, is, first, row-number, gate-number, Gate, opens, order, desk, place, rows}
 
--- what three tests say
-pub gated : {lent there full : Type 0} (a b c : Bool) → Told lent a → Told there b → Told full c → Gate lent there full (gate-number a b c)
-gated false b c l t f = order (l .no refl)
-gated true false c l t f = place (l .yes refl) (t .no refl)
-gated true true true l t f = rows (l .yes refl) (t .yes refl) (f .yes refl)
-gated true true false l t f = opens (l .yes refl) (t .yes refl) (f .no refl)
+-- what the tests say
+pub gated : {lent there full : Type 0} (a : Bool) (d : ℕ) (b c : Bool) → Told lent a → Told there b → Told full c → Gate lent d there full (gate-number a d b c)
+gated {lent = lent} {there = there} {full = full} a d b c l t f = go (desk-gated a d l) b c t f
+  where
+    go : {n : ℕ} → DeskGate lent d n → (b c : Bool) → Told there b → Told full c → Gate lent d there full (first n (row-number b c))
+    go (unordered n) b c t f = order n
+    go (no-desk l h) b c t f = desk l h
+    go (may l h) false c t f = place l h (t .no refl)
+    go (may l h) true true t f = rows l h (t .yes refl) (f .yes refl)
+    go (may l h) true false t f = opens l h (t .yes refl) (f .no refl)
 
 pub never : Told ⊥ false
 never = tell-no (λ z. z)
@@ -73,17 +80,25 @@ no-files (unsound m) r = λ d _. m d
 
 -- ---- which number
 
-pub unordered : (a b c : Bool) → not a ≡ true → 1 ≡ gate-number a b c
-unordered a b c e = rw (was-false a e) refl
+pub refused-first : {n : ℕ} (a : Bool) (d : ℕ) (b c : Bool) → n ≡ desk-number a d → (n ≡ 0 → ⊥) → n ≡ gate-number a d b c
+refused-first false d b c e h = e
+refused-first {n} true d b c e h = go (desk-number true d) e
+  where
+    go : (m : ℕ) → n ≡ m → n ≡ first m (row-number b c)
+    go zero q = absurd (h q)
+    go (suc m) q = q
 
-pub not-there : (a b c : Bool) → not a ≡ false → not b ≡ true → 23 ≡ gate-number a b c
-not-there a b c e f = rw (was-true a e, was-false b f) refl
+pub not-there : {n : ℕ} (a : Bool) (d : ℕ) (b c : Bool) → n ≡ desk-number a d → n ≡ 0 → not b ≡ true → 23 ≡ gate-number a d b c
+not-there false d b c e z f = absurd (omega (arith, e, z))
+not-there true d b c e z f = rw (← e, z, was-false b f) refl
 
-pub is-full : (a b c : Bool) → not a ≡ false → not b ≡ false → c ≡ true → 24 ≡ gate-number a b c
-is-full a b c e f g = rw (was-true a e, was-true b f, g) refl
+pub is-full : {n : ℕ} (a : Bool) (d : ℕ) (b c : Bool) → n ≡ desk-number a d → n ≡ 0 → not b ≡ false → c ≡ true → 24 ≡ gate-number a d b c
+is-full false d b c e z f g = absurd (omega (arith, e, z))
+is-full true d b c e z f g = rw (← e, z, was-true b f, g) refl
 
-pub is-open : (a b c : Bool) → not a ≡ false → not b ≡ false → c ≡ false → 0 ≡ gate-number a b c
-is-open a b c e f g = rw (was-true a e, was-true b f, g) refl
+pub is-open : {n : ℕ} (a : Bool) (d : ℕ) (b c : Bool) → n ≡ desk-number a d → n ≡ 0 → not b ≡ false → c ≡ false → 0 ≡ gate-number a d b c
+is-open false d b c e z f g = absurd (omega (arith, e, z))
+is-open true d b c e z f g = rw (← e, z, was-true b f, g) refl
 
 -- ---- an empty report
 

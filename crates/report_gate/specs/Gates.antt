@@ -1,11 +1,13 @@
--- What 1 (order) asks of a step, and the order of 1, 23 and 24 (document 02, change 2).
+-- What 1 (order) asks of a step, and the order of 1, 28, 23 and 24 (document 02, changes 2 and 8).
 use mathlib.Core.Bool.{Bool, true, false}
 use mathlib.Core.List.{List}
-use Prim.Native.Nat.{ℕ, _+_, _≤_}
+use Prim.Native.Nat.{ℕ, zero, suc, _+_, _≤_, _<_}
 use lib.ListN.{take}
 use Rattle.solve_workspace.specs.declared.Bounds.{Bounds}
 use Rattle.render.specs.declared.order.Lengths.{Lengths}
 use Rattle.render.specs.Order.{OptionsRight, InOrder}
+use Rattle.desks.specs.Desks.{last-desk}
+use Rattle.desks.specs.Desks.{gate-number as desk-number}
 use Rattle.report.specs.Memory.{Words, file-length, sum-of, Sound}
 use Rattle.report_rows.specs.declared.Totals.{Totals}
 use Rattle.report_rows.specs.declared.Summed.{Summed}
@@ -44,15 +46,24 @@ pub data IsSound : Summed → Type 0 where
 
 -- ---- the order
 
-abbrev pub gate-number : Bool → Bool → Bool → ℕ
-gate-number false there full = 1
-gate-number true false full = 23
-gate-number true true true = 24
-gate-number true true false = 0
+-- the first of two numbers that refuses; 0 is that nothing is refused
+abbrev pub first : ℕ → ℕ → ℕ
+first zero n = n
+first (suc m) n = suc m
+
+abbrev pub row-number : Bool → Bool → ℕ
+row-number false full = 23
+row-number true true = 24
+row-number true false = 0
+
+-- 1 and 28 as in every call for a desk, then 23 and 24
+abbrev pub gate-number : Bool → ℕ → Bool → Bool → ℕ
+gate-number ordered d there full = first (desk-number ordered d) (row-number there full)
 
 -- what a number says; 0 is that the step may go on
-pub data Gate (lent there full : Type 0) : ℕ → Type 0 where
-  opens : lent → there → (full → ⊥) → Gate lent there full 0
-  order : (lent → ⊥) → Gate lent there full 1
-  place : lent → (there → ⊥) → Gate lent there full 23
-  rows : lent → there → full → Gate lent there full 24
+pub data Gate (lent : Type 0) (d : ℕ) (there full : Type 0) : ℕ → Type 0 where
+  opens : lent → d ≤ last-desk → there → (full → ⊥) → Gate lent d there full 0
+  order : (lent → ⊥) → Gate lent d there full 1
+  desk : lent → last-desk < d → Gate lent d there full 28
+  place : lent → d ≤ last-desk → (there → ⊥) → Gate lent d there full 23
+  rows : lent → d ≤ last-desk → there → full → Gate lent d there full 24

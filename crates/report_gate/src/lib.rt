@@ -1,4 +1,4 @@
-// A live report's head, and the tests before a step: 1 (order), 23 (place not there), 24 (full). All by value; the report's memory is summed up before (`report_rows`).
+// A live report's head, and the tests before a step: 1 (order), 28 (no such desk), 23 (place not there), 24 (full). All by value; the report's memory is summed up before (`report_rows`).
 ghost use mathlib.Core.Path.{_≡_};
 ghost use mathlib.Core.List.{List};
 ghost use Prim.Native.Nat.{_≤_, _<_};
@@ -8,6 +8,7 @@ ghost use Rattle.report.specs.Report.{rows-most};
 ghost use Rattle.report_rows.specs.Sums.{Summing};
 ghost use Rattle.report_gate.specs.Heads.{options, Opening};
 ghost use Rattle.report_gate.specs.Gates.{StoresLent, FilesRoom, IsSound, InsertionLent, RemovalLent, gate-number, Gate};
+use desks::desk_gate;
 use render::order::Lengths;
 use render::order::in_order;
 use render::order::options_right;
@@ -146,11 +147,12 @@ fn removal_lent(h: Head, b: Bounds, s: Summed, k: Stores) -> bool
 // ---- the gates
 
 // 0 where a step may go on.
-fn number_of(ordered: bool, there: bool, full: bool) -> u32
-    ensures { λ r. ⌜ r ≡ gate-number ordered there full ⌝ }
+fn number_of(ordered: bool, desk: u32, there: bool, full: bool) -> u32
+    ensures { λ r. ⌜ r ≡ gate-number ordered desk there full ⌝ }
 {
-    if !ordered {
-        return 1;
+    let first = desk_gate(ordered, desk);
+    if first != 0 {
+        return first;
     }
     if !there {
         return 23;
@@ -162,6 +164,7 @@ fn number_of(ordered: bool, there: bool, full: bool) -> u32
 }
 
 pub fn insert_gate(
+    desk: u32,
     place: usize,
     file: usize,
     h: Head,
@@ -170,17 +173,17 @@ pub fn insert_gate(
     k: Stores,
     l: Lengths,
 ) -> u32
-    ensures { λ r. ⌜ ((table : List Words) → Summing (h .rows) table (k .files) (k .pages) (k .marks) s → Gate (InsertionLent h b file table k l) (place ≤ h .rows) (rows-most ≤ h .rows) r) ⌝ }
+    ensures { λ r. ⌜ ((table : List Words) → Summing (h .rows) table (k .files) (k .pages) (k .marks) s → Gate (InsertionLent h b file table k l) desk (place ≤ h .rows) (rows-most ≤ h .rows) r) ⌝ }
 {
     let count = h.rows as usize;
     let ordered = insertion_lent(h, b, file, s, k, l);
-    number_of(ordered, place <= count, 1024 <= count)
+    number_of(ordered, desk, place <= count, 1024 <= count)
 }
 
-pub fn remove_gate(place: usize, h: Head, b: Bounds, s: Summed, k: Stores) -> u32
-    ensures { λ r. ⌜ ((table : List Words) → Summing (h .rows) table (k .files) (k .pages) (k .marks) s → Gate (RemovalLent h b table k) (place < h .rows) ⊥ r) ⌝ }
+pub fn remove_gate(desk: u32, place: usize, h: Head, b: Bounds, s: Summed, k: Stores) -> u32
+    ensures { λ r. ⌜ ((table : List Words) → Summing (h .rows) table (k .files) (k .pages) (k .marks) s → Gate (RemovalLent h b table k) desk (place < h .rows) ⊥ r) ⌝ }
 {
     let count = h.rows as usize;
     let ordered = removal_lent(h, b, s, k);
-    number_of(ordered, place < count, false)
+    number_of(ordered, desk, place < count, false)
 }

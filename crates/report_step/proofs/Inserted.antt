@@ -6,7 +6,6 @@ use native.Mathlib.Omega.{arith}
 use lib.ListN.{length, getD, take, length-map}
 use lib.Seq.{length-take-le, getD-take}
 use Rattle.cost.specs.declared.ConsumerCost.{ConsumerCost}
-use Rattle.file_encode.specs.Fields.{Bytes}
 use Rattle.layout.specs.Layout.{page}
 use Rattle.layout.specs.Spans.{Span, spans}
 use Rattle.layout.specs.SpanWords.{parent-of, span-of}
@@ -15,34 +14,42 @@ use Rattle.machine.specs.Events.{Counts, no-counts, output, spans as spans-kind
 use Rattle.machine.specs.Events.{Bounds as Limits}
 use Rattle.machine.specs.Answer.{Answer, paged, refused}
 use Rattle.stats.specs.declared.SolveStats.{SolveStats}
+use Rattle.stats.specs.Counts.{none-counted}
 use Rattle.solve_workspace.specs.declared.Bounds.{Bounds}
 use Rattle.solve_workspace.specs.declared.Needs.{Needs}
 use Rattle.solve_workspace.specs.declared.RenderOptions.{RenderOptions}
 use Rattle.solve_workspace.specs.Meets.{limits, tally}
-use Rattle.answer.specs.Answer.{Ordered, lent-as, Answers, out-of-order, wrong-file, laid-out}
+use Rattle.answer.specs.Answer.{Answers}
 use Rattle.answer.specs.Demand.{needs-page}
 use Rattle.answer.specs.Page.{Promised, right-page}
 use Rattle.render.specs.declared.page.Rendered.{Rendered}
 use Rattle.render.specs.declared.page.Rendered.the-variants.{Page, Refused}
 use Rattle.render.specs.declared.order.Lengths.{Lengths}
-use Rattle.render.specs.Order.{InOrder}
 use Rattle.render.specs.Rendered.{meant}
 use Rattle.render.specs.Call.{Rendering, settings}
 use Rattle.report.specs.Report.{Report, Step, insert, remove, rows-most}
-use Rattle.report.specs.Answers.{Admitted, inserted, removed, StepAnswers, out-of-order as unordered, no-place, full, row-refused, tested}
+use Rattle.report.specs.Answers.{Admitted, inserted, removed, Tested, too-dear, no-bytes, no-spans, fits, no-place, full, row-refused, tested}
 use Rattle.report.specs.Memory.{Words, Sound}
 use Rattle.report.specs.Exactly.{InBytes}
+use Rattle.desks.specs.declared.Desks.{Desks}
+use Rattle.desks.specs.Desks.{last-desk, remaining, at-most}
+use Rattle.desks.specs.Lent.{within}
+use Rattle.desks.specs.Served.{Served, out-of-order, no-desk}
+use Rattle.desks.specs.Kinds.{step, step-spends}
+use Rattle.desks.proofs.Calling.{order-within, answers-unit}
 use Rattle.report_store.specs.Marks.{Narrow}
 use Rattle.report_edit.specs.RowLaws.{rows-count}
 use Rattle.report_gate.specs.declared.Head.{Head}
+use Rattle.report_gate.specs.declared.Stores.{Stores}
 use Rattle.report_gate.specs.Heads.{options, held}
-use Rattle.report_gate.specs.Gates.{InsertionLent, RemovalLent, Gate, opens, order, place, rows}
+use Rattle.report_gate.specs.Gates.{InsertionLent, RemovalLent, Gate, opens, order, desk, place, rows}
 use Rattle.report_settle.specs.declared.Step.{Step as Told}
 use Rattle.report_settle.specs.Verdicts.{refusal-of}
 use Rattle.report_settle.specs.Settled.{stores, Stands, Unaltered, PageHeld, Room, row-page, Settled, Removing, RemovalSettled}
 use Rattle.report_settle.proofs.Settling.{stands-refused, unaltered}
-use Rattle.report_step.specs.Stepping.{Stepping}
-use Rattle.report_step.proofs.Steps.{steps}
+use Rattle.report_step.specs.declared.DeskStep.{DeskStep}
+use Rattle.report_step.specs.Stepping.{with-desks, Stepping}
+use Rattle.report_step.proofs.Steps.{free, steps, Past}
 
 -- ---- how many rows there are
 
@@ -51,48 +58,45 @@ rows-held h table files pages marks g = rows-count (take (h .rows) table) files 
 
 -- ---- the gate
 
-pub opened : {lent there full : Type 0} {g : ℕ} → g ≡ 0 → Gate lent there full g → lent × there × (full → ⊥)
-opened e (opens l t f) = (l, t, f)
+pub opened : {lent there full : Type 0} {d g : ℕ} → g ≡ 0 → Gate lent d there full g → lent × (d ≤ last-desk) × there × (full → ⊥)
+opened e (opens l h t f) = (l, h, t, f)
 opened e (order n) = absurd (omega (arith, e))
-opened e (place l n) = absurd (omega (arith, e))
-opened e (rows l t f) = absurd (omega (arith, e))
+opened e (desk l h) = absurd (omega (arith, e))
+opened e (place l h n) = absurd (omega (arith, e))
+opened e (rows l h t f) = absurd (omega (arith, e))
 
-module _ {X : Report} {b : Limits} {count : ℕ} where
-  pub insert-shut : {lent : Type 0} {i : ℕ} {f : List ℕ} {g : ℕ} → (lent → length (X .rows) ≡ count) → (g ≡ 0 → ⊥) → Gate lent (i ≤ count) (rows-most ≤ count) g → StepAnswers lent X b (insert i f) (refused g 0 no-counts) X
-  insert-shut n e (opens l t f) = absurd (e refl)
-  insert-shut n e (order m) = unordered m
-  insert-shut {i = i} {f = f} n e (place l m) = no-place {s = insert i f} l (λ p. m (omega (arith, p, n l)))
-  insert-shut {i = i} {f = x} n e (rows l t f) = full {s = insert i x} l (omega (arith, t, n l)) (omega (arith, f, n l))
+module _ {X : Report} {D : Desks} {d : ℕ} {b : Limits} {count : ℕ} where
+  pub insert-shut : {lent : Type 0} {i : ℕ} {f : List ℕ} {g : ℕ} → (lent → length (X .rows) ≡ count) → (g ≡ 0 → ⊥) → Gate lent d (i ≤ count) (rows-most ≤ count) g → Served lent D d (step X (insert i f)) b X (refused g 0 no-counts) X D
+  insert-shut n e (opens l h t f) = absurd (e refl)
+  insert-shut n e (order m) = out-of-order m
+  insert-shut n e (desk l h) = no-desk l h
+  insert-shut {i = i} {f = x} n e (place l h m) = free refl l h (no-place {s = insert i x} tt (λ p. m (omega (arith, p, n l))))
+  insert-shut {i = i} {f = x} n e (rows l h t f) = free refl l h (full {s = insert i x} tt (omega (arith, t, n l)) (omega (arith, f, n l)))
 
-  pub remove-shut : {lent : Type 0} {i : ℕ} {g : ℕ} → (lent → length (X .rows) ≡ count) → (g ≡ 0 → ⊥) → Gate lent (i < count) ⊥ g → StepAnswers lent X b (remove i) (refused g 0 no-counts) X
-  remove-shut n e (opens l t f) = absurd (e refl)
-  remove-shut n e (order m) = unordered m
-  remove-shut {i = i} n e (place l m) = no-place {s = remove i} l (λ p. m (omega (arith, p, n l)))
-  remove-shut n e (rows l t f) = absurd f
+  pub remove-shut : {lent : Type 0} {i : ℕ} {g : ℕ} → (lent → length (X .rows) ≡ count) → (g ≡ 0 → ⊥) → Gate lent d (i < count) ⊥ g → Served lent D d (step X (remove i)) b X (refused g 0 no-counts) X D
+  remove-shut n e (opens l h t f) = absurd (e refl)
+  remove-shut n e (order m) = out-of-order m
+  remove-shut n e (desk l h) = no-desk l h
+  remove-shut {i = i} n e (place l h m) = free refl l h (no-place {s = remove i} tt (λ p. m (omega (arith, p, n l))))
+  remove-shut n e (rows l h t f) = absurd f
 
 -- a step that the gate refuses
-module _ {s : Step} {lent : Type 0} {b : Bounds} {h : Head} {table : List Words} {files pages : List ℕ} {marks : List Words} {output : List ℕ} {spans : List Words} where
-  pub shut : {g : ℕ} {k : SolveStats} (r : Told) → InBytes s → r ≡ refusal-of g 0 k h → tally k ≡ no-counts → k .«fit_checks» ≡ 0
-      → StepAnswers lent (held h table files pages marks) (limits b) s (refused g 0 no-counts) (held h table files pages marks)
-      → Stepping s lent b h table table files files pages pages marks marks output output spans spans r
-  shut {g} {k} r z e c f w =
-      steps z
-      (subst (λ (x : Told). StepAnswers lent (held h table files pages marks) (limits b) s (meant (x .answer) output spans) (held (x .head) table files pages marks)) (sym e)
-      (subst (λ (x : Counts). StepAnswers lent (held h table files pages marks) (limits b) s (refused g 0 x) (held h table files pages marks)) (sym c) w))
-      (stands-refused r e f output spans)
-      (λ n needed m q. unaltered r e table files pages marks)
-      (λ g. subst (λ (x : Told). Sound (x .head .rows) table (length files) (length pages) (length marks)) (sym e) g)
+module _ {s : Step} {lent : Type 0} {d : ℕ} {D : Desks} {b : Bounds} {h : Head} {table : List Words} {files pages : List ℕ} {marks : List Words} {output : List ℕ} {spans : List Words} where
+  pub shut : {g : ℕ} {r : DeskStep} → InBytes s → r ≡ with-desks (refusal-of g 0 none-counted h) D
+      → Served lent D d (step (held h table files pages marks) s) (limits b) (held h table files pages marks) (refused g 0 no-counts) (held h table files pages marks) D
+      → Stepping s lent d D b h table table files files pages pages marks marks output output spans spans r
+  shut {g} z e w = let t = refusal-of g 0 none-counted h in steps z e w (stands-refused t refl refl output spans) (λ n needed m q. unaltered t refl table files pages marks) (λ g. g)
 
 -- ---- the single call
 
--- with memory to match, nothing is left of 1
-ordered : {o : RenderOptions} {b : Bounds} {l : Lengths} → InOrder o b l → Ordered (InOrder o b l) (settings o)
-ordered i = record { wide = i .options .width; policy-known = i .options .policy; rule-known = i .options .rule; lent-enough = i }
-
-pub answers-unit : {o : RenderOptions} {b : Bounds} {l : Lengths} {file : List ℕ} {d : Limits} {a : Answer} → InOrder o b l → Answers (InOrder o b l) file (settings o) d a → Answers (Unit {0}) file (settings o) d a
-answers-unit i (out-of-order n) = absurd (n (ordered i))
-answers-unit i (wrong-file n c m) = wrong-file n (lent-as tt c) m
-answers-unit i (laid-out c m) = laid-out (lent-as tt c) m
+-- what 1 asks is asked of sizes alone
+pub lent-within : (D : Desks) (d : ℕ) {b c : Bounds} {h : Head} {file : ℕ} {table : List Words} {k : Stores} {l : Lengths} → c ≡ within D d b → InsertionLent h b file table k l → InsertionLent h c file table k l
+lent-within D d {h = h} {file = file} {table = table} {k = k} {l = l} e w = subst (λ (x : Bounds). InsertionLent h x file table k l) (sym e) (record {
+  sound = w .sound;
+  stores = record { pages = w .stores .pages; output = w .stores .output; marks = w .stores .marks; spans = w .stores .spans };
+  files = w .files;
+  call = order-within D d (w .call);
+})
 
 -- a page's spans have their place in marks of 32 bits
 word-in : (top n a b c w : ℕ) → Inside top n (record { annotation = a; start = b; end = c; parent = parent-of w } ∷ []) → w ≤ n
@@ -148,9 +152,6 @@ module _ {file : List ℕ} {o : RenderOptions} {b : Bounds} {l : Lengths} {out�
 -- ---- the whole step
 
 module _ (i : ℕ) (b : Bounds) (h : Head) (file : List ℕ) (table₀ : List Words) (files₀ pages₀ : List ℕ) (marks₀ : List Words) (output₀ : List ℕ) (spans₀ : List Words) (l : Lengths) where
-  abbrev lent : Type 0
-  lent = InsertionLent h b (length file) table₀ (stores files₀ pages₀ marks₀ output₀ spans₀) l
-
   abbrev before : Report
   before = held h table₀ files₀ pages₀ marks₀
 
@@ -161,55 +162,68 @@ module _ (i : ℕ) (b : Bounds) (h : Head) (file : List ℕ) (table₀ : List Wo
         below : (x : ℕ) → (rows-most ≤ x → ⊥) → x < rows-most
         below x n = omega (arith, n)
 
-    admitted : Admitted lent before (insert i file)
+    admitted : Admitted (Unit {0}) before (insert i file)
     admitted =
         let e = rows-held h table₀ files₀ pages₀ marks₀ (w .sound) in
-        record { lent-enough = w; place = omega (arith, p, e); room = λ f. n (omega (arith, f, e)) }
+        record { lent-enough = tt; place = omega (arith, p, e); room = λ f. n (omega (arith, f, e)) }
 
     module _ {row₀ row : List ℕ} {row-spans₀ row-spans : List Words} {table : List Words} {files pages : List ℕ} {marks : List Words} {output : List ℕ} {spans : List Words} where
-      pub insertion-steps : Bytes file → {a : Rendered} → Rendering file (options h) b l row₀ row row-spans₀ row-spans a → {r : Told}
-          → Settled i b h a file row row-spans table₀ table files₀ files pages₀ pages marks₀ marks output₀ output spans₀ spans r
-          → Stepping (insert i file) (InsertionLent h b (length file) table₀ (stores files₀ pages₀ marks₀ output₀ spans₀) l) b h table₀ table files₀ files pages₀ pages marks₀ marks output₀ output spans₀ spans r
-      insertion-steps z {a} g {r} t = go a refl
+      pub insertion-past : {a : Rendered} → Rendering file (options h) b l row₀ row row-spans₀ row-spans a → {t : Told}
+          → Settled i b h a file row row-spans table₀ table files₀ files pages₀ pages marks₀ marks output₀ output spans₀ spans t
+          → Past (insert i file) b h table₀ table files₀ files pages₀ pages marks₀ marks output₀ output spans₀ spans t
+      insertion-past {a} g {t} q = go a refl
         where
-          go : (x : Rendered) → a ≡ x → Stepping (insert i file) lent b h table₀ table files₀ files pages₀ pages marks₀ marks output₀ output spans₀ spans r
+          go : (x : Rendered) → a ≡ x → Past (insert i file) b h table₀ table files₀ files pages₀ pages marks₀ marks output₀ output spans₀ spans t
           go (Refused m needed k) e =
-              let d = t .refused m needed k e in
+              let d = q .refused m needed k e in
               let y = subst (λ (x : Rendered). Rendering file (options h) b l row₀ row row-spans₀ row-spans x) e g in
               let u = d .1 in
-              steps z (told m needed k (d .0) u (answers-unit (w .call) (y .answers))) (stand m needed k (d .0) (d .2) (d .3) (y .stands .no-fit-checks)) (λ _ _ _ _. u) (λ s. sounds u s)
+              record {
+                answers = told m needed k (d .0) u (answers-unit (w .call) (y .answers));
+                stands = stand m needed k (d .0) (d .2) (d .3) (y .stands .no-fit-checks);
+                kept = λ _ _ _ _. u;
+                sound-kept = λ s. rw (u .head-is, u .table-is, u .files-are, u .pages-are, u .marks-are) s;
+              }
             where
-              told : (m needed : ℕ) (k : SolveStats) → r ≡ refusal-of m needed k h → Unaltered h table₀ table files₀ files pages₀ pages marks₀ marks r → Answers (Unit {0}) file (settings (options h)) (limits b) (refused m needed (tally k)) → StepAnswers lent before (limits b) (insert i file) (meant (r .answer) output spans) (held (r .head) table files pages marks)
+              told : (m needed : ℕ) (k : SolveStats) → t ≡ refusal-of m needed k h → Unaltered h table₀ table files₀ files pages₀ pages marks₀ marks t → Answers (Unit {0}) file (settings (options h)) (limits b) (refused m needed (tally k)) → step before (insert i file) (limits b) (meant (t .answer) output spans) (held (t .head) table files pages marks)
               told m needed k q u v =
-                  subst (λ (x : Told). StepAnswers lent before (limits b) (insert i file) (meant (x .answer) output spans) (held (x .head) table files pages marks)) (sym q)
-                  (subst (λ (x : List Words). StepAnswers lent before (limits b) (insert i file) (refused m needed (tally k)) (held h x files pages marks)) (sym (u .table-is))
-                  (subst (λ (x : List ℕ). StepAnswers lent before (limits b) (insert i file) (refused m needed (tally k)) (held h table₀ x pages marks)) (sym (u .files-are))
-                  (subst (λ (x : List ℕ). StepAnswers lent before (limits b) (insert i file) (refused m needed (tally k)) (held h table₀ files₀ x marks)) (sym (u .pages-are))
-                  (subst (λ (x : List Words). StepAnswers lent before (limits b) (insert i file) (refused m needed (tally k)) (held h table₀ files₀ pages₀ x)) (sym (u .marks-are))
+                  subst (λ (x : Told). step before (insert i file) (limits b) (meant (x .answer) output spans) (held (x .head) table files pages marks)) (sym q)
+                  (subst (λ (x : List Words). step before (insert i file) (limits b) (refused m needed (tally k)) (held h x files pages marks)) (sym (u .table-is))
+                  (subst (λ (x : List ℕ). step before (insert i file) (limits b) (refused m needed (tally k)) (held h table₀ x pages marks)) (sym (u .files-are))
+                  (subst (λ (x : List ℕ). step before (insert i file) (limits b) (refused m needed (tally k)) (held h table₀ files₀ x marks)) (sym (u .pages-are))
+                  (subst (λ (x : List Words). step before (insert i file) (limits b) (refused m needed (tally k)) (held h table₀ files₀ pages₀ x)) (sym (u .marks-are))
                   (row-refused admitted v)))))
 
-              stand : (m needed : ℕ) (k : SolveStats) → r ≡ refusal-of m needed k h → output ≡ output₀ → spans ≡ spans₀ → k .«fit_checks» ≡ 0 → Stands (r .answer) output₀ output spans₀ spans
-              stand m needed k q x y c = subst (λ (o : List ℕ). Stands (r .answer) output₀ o spans₀ spans) (sym x) (subst (λ (o : List Words). Stands (r .answer) output₀ output₀ spans₀ o) (sym y) (stands-refused r q c output₀ spans₀))
-
-              sounds : Unaltered h table₀ table files₀ files pages₀ pages marks₀ marks r → Sound (h .rows) table₀ (length files₀) (length pages₀) (length marks₀) → Sound (r .head .rows) table (length files) (length pages) (length marks)
-              sounds u s = rw (u .head-is, u .table-is, u .files-are, u .pages-are, u .marks-are) s
-          go (Page c x m k q) e =
-              let d = t .paged c x m k q e in
+              stand : (m needed : ℕ) (k : SolveStats) → t ≡ refusal-of m needed k h → output ≡ output₀ → spans ≡ spans₀ → k .«fit_checks» ≡ 0 → Stands (t .answer) output₀ output spans₀ spans
+              stand m needed k q x y c = subst (λ (o : List ℕ). Stands (t .answer) output₀ o spans₀ spans) (sym x) (subst (λ (o : List Words). Stands (t .answer) output₀ output₀ spans₀ o) (sym y) (stands-refused t q c output₀ spans₀))
+          go (Page c x m k z) e =
+              let d = q .paged c x m k z e in
               let y = subst (λ (x : Rendered). Rendering file (options h) b l row₀ row row-spans₀ row-spans x) e g in
-              steps z (tested admitted (inserted (answers-unit (w .call) (y .answers))) (d .tested)) (d .stands) (d .kept) (λ _. d .sound)
+              record { answers = tested admitted (inserted (answers-unit (w .call) (y .answers))) (d .tested); stands = d .stands; kept = d .kept; sound-kept = λ _. d .sound }
 
 -- ---- a removal
+
+-- the whole page is tested under sizes alone
+tested-within : {X Y Z : Report} {b : Limits} {k : Counts} {a : Answer} (n : ℕ) → Tested X b k Y a Z → Tested X (at-most n b) k Y a Z
+tested-within n (too-dear x) = too-dear x
+tested-within n (no-bytes x y) = no-bytes x y
+tested-within n (no-spans x y z) = no-spans x y z
+tested-within n (fits x y z) = fits x y z
 
 module _ (i : ℕ) (b : Bounds) (h : Head) (table₀ : List Words) (files₀ pages₀ : List ℕ) (marks₀ : List Words) (output₀ : List ℕ) (spans₀ : List Words) (w : RemovalLent h b table₀ (stores files₀ pages₀ marks₀ output₀ spans₀)) (p : i < h .rows) where
   pub removing : Removing i b h table₀ files₀ pages₀ marks₀ output₀ spans₀
   removing = record { sound = w .sound; lent = w .stores; place-in = p }
 
-  pub removal-steps : {table : List Words} {files pages : List ℕ} {marks : List Words} {output : List ℕ} {spans : List Words} {r : Told}
-      → RemovalSettled i b h table₀ table files₀ files pages₀ pages marks₀ marks output₀ output spans₀ spans r
-      → Stepping (remove i) (RemovalLent h b table₀ (stores files₀ pages₀ marks₀ output₀ spans₀)) b h table₀ table files₀ files pages₀ pages marks₀ marks output₀ output spans₀ spans r
-  removal-steps d =
-      let e = rows-held h table₀ files₀ pages₀ marks₀ (w .sound) in
-      steps tt (tested (record { lent-enough = w; place = omega (arith, p, e); room = λ f. f }) removed (d .tested)) (d .stands) (d .kept) (λ _. d .sound)
+  -- it needs no work, so none need be allowed
+  pub removal-steps : {d : ℕ} {D : Desks} → d ≤ last-desk → {table : List Words} {files pages : List ℕ} {marks : List Words} {output : List ℕ} {spans : List Words} {t : Told}
+      → RemovalSettled i b h table₀ table files₀ files pages₀ pages marks₀ marks output₀ output spans₀ spans t → {r : DeskStep} → r ≡ with-desks t D
+      → Stepping (remove i) (RemovalLent h b table₀ (stores files₀ pages₀ marks₀ output₀ spans₀)) d D b h table₀ table files₀ files pages₀ pages marks₀ marks output₀ output spans₀ spans r
+  removal-steps {d} {D} c {table} {files} {pages} {marks} {output} {spans} {t} q e = steps tt e (free (omega (arith, step-spends (under 0))) w c (under (remaining D d))) (q .stands) (q .kept) (λ _. q .sound)
+    where
+      under : (n : ℕ) → step (held h table₀ files₀ pages₀ marks₀) (remove i) (at-most n (limits b)) (meant (t .answer) output spans) (held (t .head) table files pages marks)
+      under n =
+          let e = rows-held h table₀ files₀ pages₀ marks₀ (w .sound) in
+          tested {s = remove i} (record { lent-enough = tt; place = omega (arith, p, e); room = λ f. f }) removed (tested-within n (q .tested))
 
 -- the single call, under the report's setting
 pub with-options : {file : List ℕ} {o : RenderOptions} (h : Head) {b : Bounds} {l : Lengths} {out₀ out : List ℕ} {marks₀ marks : List Words} {a : Rendered} → o ≡ options h → Rendering file o b l out₀ out marks₀ marks a → Rendering file (options h) b l out₀ out marks₀ marks a

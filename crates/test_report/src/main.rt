@@ -1,23 +1,32 @@
-// Calls on live reports from standard input, a line each: for each call how many rows the report has after it, and its answer as in `test_calls`.
+// Calls on live reports and on single files from standard input, a line each: for each step how many rows the report has after it, and its answer as in `test_calls`. From the first
+// `desk`, `allow` or `spent` on, each answer has the desks before it, as they are after the call: eight allowances, eight spent counts.
 //
 //     open WIDTH NEWLINE_COST POLICY RULE
-//     sizes STACK MEMO KEPT FRONTIER PLANS VISIT DEPTH OUTPUT SPANS     of the steps from here on
+//     sizes STACK MEMO KEPT FRONTIER PLANS VISIT DEPTH OUTPUT SPANS     of the calls from here on
 //     limits WORK VISITS        likewise
+//     desk D                    likewise, 0 at first
+//     allow A0 .. A7            what the desks may do, with nothing spent; 2^64 - 1 each at first
+//     spent S0 .. S7            what they have done
 //     insert PLACE HEX          `-` where the file is empty
 //     remove PLACE
 //     fill COUNT HEX            so many insertions at the end; the last one's answer is written
 //     empty                     row 0 is removed until none is left; the last one's answer is written
 //     word ROW WORD VALUE       a word of the table is altered, for memory that no step has written
+//     call WIDTH NEWLINE_COST POLICY RULE HEX     a call on one file
 //
 // Any other line (case NAME) is handed on. Memory is lent at the sizes of `page`, but spans at 2,048; files and pages have 65,536 bytes, and there are 4,096 marks.
-// A step that asks for more is 1, and so is one before a report is opened. Each report has the memory that the one before it left.
+// A call that asks for more is 1, and so is a step before a report is opened. Each report has the memory that the one before it left.
+use desk_call::render_for;
+use desks::Desks;
+use desks::Served;
 use report_gate::Head;
 use report_gate::Opened;
 use report_gate::open_report;
-use report_settle::Step;
+use report_step::DeskStep;
 use report_step::insert;
 use report_step::remove;
 use solve_workspace::Bounds;
+use solve_workspace::RenderOptions;
 use test_answers::bounds_of;
 use test_answers::hand_on;
 use test_answers::print_answer;
@@ -28,26 +37,94 @@ use test_lines::number_at;
 use test_lines::numbers_at;
 use test_lines::small;
 
-// What holds after a line, and where the next one begins.
-struct Turn {
+// What holds for a call: the report's head, sizes and limits, the desk, the desks, and whether they are written.
+struct State {
     head: Head,
     bounds: Bounds,
+    desk: u32,
+    desks: Desks,
+    told: bool,
+}
+
+// What holds after a line, and where the next one begins.
+struct Turn {
+    state: State,
     next: usize,
 }
 
-fn turned(h: Head, b: Bounds, next: usize) -> Turn {
+fn turned(s: State, next: usize) -> Turn {
     Turn {
-        head: h,
-        bounds: b,
+        state: s,
         next: next,
     }
 }
 
-// ---- lines without a step
+fn held(h: Head, b: Bounds, desk: u32, d: Desks, told: bool) -> State {
+    State {
+        head: h,
+        bounds: b,
+        desk: desk,
+        desks: d,
+        told: told,
+    }
+}
+
+fn with_head(s: State, h: Head) -> State {
+    let b = s.bounds;
+    let d = s.desks;
+    held(h, b, s.desk, d, s.told)
+}
+
+fn with_bounds(s: State, b: Bounds) -> State {
+    let h = s.head;
+    let d = s.desks;
+    held(h, b, s.desk, d, s.told)
+}
+
+fn with_desks(s: State, d: Desks) -> State {
+    let h = s.head;
+    let b = s.bounds;
+    held(h, b, s.desk, d, s.told)
+}
+
+fn after(s: State, t: DeskStep) -> State {
+    let h = t.head;
+    let d = t.desks;
+    with_head(with_desks(s, d), h)
+}
+
+// ---- lines without a call
 
 fn print_rows(h: Head) {
     let rows = [h.rows as u64];
     print_numbers(b"rows", &rows);
+}
+
+fn print_desks(s: State) {
+    if s.told {
+        let d = s.desks;
+        let a = d.allowance;
+        let k = d.spent;
+        let numbers = [
+            a[0],
+            a[1],
+            a[2],
+            a[3],
+            a[4],
+            a[5],
+            a[6],
+            a[7],
+            k[0],
+            k[1],
+            k[2],
+            k[3],
+            k[4],
+            k[5],
+            k[6],
+            k[7],
+        ];
+        print_numbers(b"desks", &numbers);
+    }
 }
 
 // A report's head, or the one before where it is refused.
@@ -66,19 +143,21 @@ fn opened(w: [u64; 4], h: Head) -> Head {
     }
 }
 
-fn open_at(input: &[u8], from: usize, h: Head, b: Bounds) -> Turn {
+fn open_at(input: &[u8], from: usize, s: State) -> Turn {
     let mut w = [0u64; 4];
     let next = numbers_at(input, from, &mut w);
+    let h = s.head;
     let head = opened(w, h);
     io::write_all(1, b"\n");
-    turned(head, b, next)
+    turned(with_head(s, head), next)
 }
 
-fn sizes_at(input: &[u8], from: usize, h: Head, b: Bounds) -> Turn {
-    let mut s = [0u64; 9];
-    let next = numbers_at(input, from, &mut s);
+fn sizes_at(input: &[u8], from: usize, s: State) -> Turn {
+    let mut w = [0u64; 9];
+    let next = numbers_at(input, from, &mut w);
+    let b = s.bounds;
     let l = [b.work_limit, b.visit_limit];
-    turned(h, bounds_of(s, l), next)
+    turned(with_bounds(s, bounds_of(w, l)), next)
 }
 
 fn limited(b: Bounds, l: [u64; 2]) -> Bounds {
@@ -97,24 +176,74 @@ fn limited(b: Bounds, l: [u64; 2]) -> Bounds {
     }
 }
 
-fn limits_at(input: &[u8], from: usize, h: Head, b: Bounds) -> Turn {
+fn limits_at(input: &[u8], from: usize, s: State) -> Turn {
     let mut l = [0u64; 2];
     let next = numbers_at(input, from, &mut l);
-    turned(h, limited(b, l), next)
+    let b = s.bounds;
+    turned(with_bounds(s, limited(b, l)), next)
 }
 
-// `open`, `sizes`, `limits` or any other line, by its first letter.
-fn setting_at(input: &[u8], from: usize, c: u8, h: Head, b: Bounds) -> Turn {
+fn desk_at(input: &[u8], from: usize, s: State) -> Turn {
+    let mut w = [0u64; 1];
+    let next = numbers_at(input, from, &mut w);
+    let h = s.head;
+    let b = s.bounds;
+    let d = s.desks;
+    turned(held(h, b, small(w[0]), d, true), next)
+}
+
+fn allow_at(input: &[u8], from: usize, s: State) -> Turn {
+    let mut w = [0u64; 8];
+    let next = numbers_at(input, from, &mut w);
+    let h = s.head;
+    let b = s.bounds;
+    let d = Desks {
+        allowance: w,
+        spent: [0u64; 8],
+    };
+    turned(held(h, b, s.desk, d, true), next)
+}
+
+fn spent_at(input: &[u8], from: usize, s: State) -> Turn {
+    let mut w = [0u64; 8];
+    let next = numbers_at(input, from, &mut w);
+    let h = s.head;
+    let b = s.bounds;
+    let before = s.desks;
+    let a = before.allowance;
+    let d = Desks {
+        allowance: a,
+        spent: w,
+    };
+    turned(held(h, b, s.desk, d, true), next)
+}
+
+// `spent` or `sizes`, by the third letter.
+fn words_at(input: &[u8], from: usize, e: u8, s: State) -> Turn {
+    if e == b'e' {
+        return spent_at(input, from, s);
+    }
+    sizes_at(input, from, s)
+}
+
+// `open`, `sizes`, `spent`, `limits`, `desk`, `allow` or any other line, by its first letter and its third.
+fn setting_at(input: &[u8], from: usize, c: u8, e: u8, s: State) -> Turn {
     if c == b'o' {
-        return open_at(input, from, h, b);
+        return open_at(input, from, s);
     }
     if c == b's' {
-        return sizes_at(input, from, h, b);
+        return words_at(input, from, e, s);
     }
     if c == b'l' {
-        return limits_at(input, from, h, b);
+        return limits_at(input, from, s);
     }
-    turned(h, b, hand_on(input, from))
+    if c == b'd' {
+        return desk_at(input, from, s);
+    }
+    if c == b'a' {
+        return allow_at(input, from, s);
+    }
+    turned(s, hand_on(input, from))
 }
 
 fn alter(table: &mut [[u64; 8]], row: usize, word: usize, value: u64) {
@@ -137,15 +266,17 @@ fn word_at(input: &[u8], from: usize, table: &mut [[u64; 8]]) -> usize {
 fn insert_lent(
     place: usize,
     file: &[u8],
-    b: Bounds,
-    h: Head,
+    s: State,
     table: &mut [[u64; 8]; 1024],
     files: &mut [u8; 65536],
     pages: &mut [u8; 65536],
     marks: &mut [[u32; 4]; 4096],
     output: &mut [u8; 32768],
     spans: &mut [[u64; 4]; 2048],
-) -> Step {
+) -> DeskStep {
+    let h = s.head;
+    let b = s.bounds;
+    let d = s.desks;
     let mut nodes = [[0u32; 8]; 4096];
     let mut edges = [0u32; 16384];
     let mut choices = [0u32; 16384];
@@ -164,6 +295,8 @@ fn insert_lent(
     let mut row_output = [0u8; 32768];
     let mut row_spans = [[0u64; 4]; 2048];
     insert(
+        s.desk,
+        d,
         place,
         file,
         b,
@@ -194,36 +327,36 @@ fn insert_lent(
     )
 }
 
-fn tell(s: Step, output: &[u8], spans: &[[u64; 4]]) -> Head {
-    let answer = s.answer;
-    let head = s.head;
+fn tell(s: State, t: DeskStep, output: &[u8], spans: &[[u64; 4]]) -> State {
+    let answer = t.answer;
+    let head = t.head;
+    let told = after(s, t);
     print_rows(head);
+    print_desks(told);
     print_answer(answer, output, spans);
-    head
+    told
 }
 
 // All but the last of so many insertions.
 fn fill(
     count: u64,
     file: &[u8],
-    b: Bounds,
-    h: Head,
+    s: State,
     table: &mut [[u64; 8]; 1024],
     files: &mut [u8; 65536],
     pages: &mut [u8; 65536],
     marks: &mut [[u32; 4]; 4096],
     output: &mut [u8; 32768],
     spans: &mut [[u64; 4]; 2048],
-) -> Head {
-    let mut head = h;
+) -> State {
+    let mut state = s;
     let mut left = count;
     while 1 < left {
-        let place = head.rows as usize;
-        let s = insert_lent(
+        let place = state.head.rows as usize;
+        let t = insert_lent(
             place,
             file,
-            b,
-            head,
+            state,
             table,
             files,
             pages,
@@ -231,44 +364,32 @@ fn fill(
             output,
             spans,
         );
-        head = s.head;
+        state = after(state, t);
         left -= 1;
     }
-    head
+    state
 }
 
+// The last one's answer, with head and desks after all of them.
 fn insertion(
     filling: bool,
     number: u64,
     file: &[u8],
-    b: Bounds,
-    h: Head,
+    s: State,
     table: &mut [[u64; 8]; 1024],
     files: &mut [u8; 65536],
     pages: &mut [u8; 65536],
     marks: &mut [[u32; 4]; 4096],
     output: &mut [u8; 32768],
     spans: &mut [[u64; 4]; 2048],
-) -> Step {
+) -> DeskStep {
     if filling {
-        let head = fill(
-            number,
-            file,
-            b,
-            h,
-            table,
-            files,
-            pages,
-            marks,
-            output,
-            spans,
-        );
-        let place = head.rows as usize;
+        let filled = fill(number, file, s, table, files, pages, marks, output, spans);
+        let place = filled.head.rows as usize;
         return insert_lent(
             place,
             file,
-            b,
-            head,
+            filled,
             table,
             files,
             pages,
@@ -278,15 +399,14 @@ fn insertion(
         );
     }
     let place = number as usize;
-    insert_lent(place, file, b, h, table, files, pages, marks, output, spans)
+    insert_lent(place, file, s, table, files, pages, marks, output, spans)
 }
 
 fn insertion_at(
     input: &[u8],
     from: usize,
     filling: bool,
-    h: Head,
-    b: Bounds,
+    s: State,
     table: &mut [[u64; 8]; 1024],
     files: &mut [u8; 65536],
     pages: &mut [u8; 65536],
@@ -299,10 +419,40 @@ fn insertion_at(
     let number = number_at(input, at);
     let read = file_at(input, at, &mut file);
     let n = test_lines::count(read.line, &file);
-    let s = insertion(
+    let t = insertion(
         filling,
         number.value,
         &file[..n],
+        s,
+        table,
+        files,
+        pages,
+        marks,
+        output,
+        spans,
+    );
+    turned(tell(s, t, output, spans), read.next)
+}
+
+// ---- removals
+
+fn remove_row(
+    place: usize,
+    s: State,
+    table: &mut [[u64; 8]; 1024],
+    files: &mut [u8; 65536],
+    pages: &mut [u8; 65536],
+    marks: &mut [[u32; 4]; 4096],
+    output: &mut [u8; 32768],
+    spans: &mut [[u64; 4]; 2048],
+) -> DeskStep {
+    let h = s.head;
+    let b = s.bounds;
+    let d = s.desks;
+    remove(
+        s.desk,
+        d,
+        place,
         b,
         h,
         table,
@@ -311,58 +461,52 @@ fn insertion_at(
         marks,
         output,
         spans,
-    );
-    turned(tell(s, output, spans), b, read.next)
+    )
 }
-
-// ---- removals
 
 // All but the last of the removals that empty a report.
 fn empty(
-    b: Bounds,
-    h: Head,
+    s: State,
     table: &mut [[u64; 8]; 1024],
     files: &mut [u8; 65536],
     pages: &mut [u8; 65536],
     marks: &mut [[u32; 4]; 4096],
     output: &mut [u8; 32768],
     spans: &mut [[u64; 4]; 2048],
-) -> Head {
-    let mut head = h;
-    let mut left = h.rows;
+) -> State {
+    let mut state = s;
+    let mut left = state.head.rows;
     while 1 < left {
-        let s = remove(0, b, head, table, files, pages, marks, output, spans);
-        head = s.head;
+        let t = remove_row(0, state, table, files, pages, marks, output, spans);
+        state = after(state, t);
         left -= 1;
     }
-    head
+    state
 }
 
 fn removal(
     emptying: bool,
     place: usize,
-    b: Bounds,
-    h: Head,
+    s: State,
     table: &mut [[u64; 8]; 1024],
     files: &mut [u8; 65536],
     pages: &mut [u8; 65536],
     marks: &mut [[u32; 4]; 4096],
     output: &mut [u8; 32768],
     spans: &mut [[u64; 4]; 2048],
-) -> Step {
+) -> DeskStep {
     if emptying {
-        let head = empty(b, h, table, files, pages, marks, output, spans);
-        return remove(0, b, head, table, files, pages, marks, output, spans);
+        let emptied = empty(s, table, files, pages, marks, output, spans);
+        return remove_row(0, emptied, table, files, pages, marks, output, spans);
     }
-    remove(place, b, h, table, files, pages, marks, output, spans)
+    remove_row(place, s, table, files, pages, marks, output, spans)
 }
 
 fn removal_at(
     input: &[u8],
     from: usize,
     emptying: bool,
-    h: Head,
-    b: Bounds,
+    s: State,
     table: &mut [[u64; 8]; 1024],
     files: &mut [u8; 65536],
     pages: &mut [u8; 65536],
@@ -374,11 +518,10 @@ fn removal_at(
     let at = behind(input, from, 32);
     let number = number_at(input, at);
     let place = number.value as usize;
-    let s = removal(
+    let t = removal(
         emptying,
         place,
-        b,
-        h,
+        s,
         table,
         files,
         pages,
@@ -386,13 +529,100 @@ fn removal_at(
         output,
         spans,
     );
-    turned(tell(s, output, spans), b, next)
+    turned(tell(s, t, output, spans), next)
+}
+
+// ---- calls on one file
+
+fn options_of(w: [u64; 3], rule: u64) -> RenderOptions {
+    RenderOptions {
+        width: small(w[0]),
+        newline_cost: small(w[1]),
+        policy: small(w[2]),
+        rule: small(rule),
+    }
+}
+
+fn call_lent(
+    file: &[u8],
+    options: RenderOptions,
+    s: State,
+    output: &mut [u8; 32768],
+    spans: &mut [[u64; 4]; 2048],
+) -> Served {
+    let b = s.bounds;
+    let d = s.desks;
+    let mut nodes = [[0u32; 8]; 4096];
+    let mut edges = [0u32; 16384];
+    let mut choices = [0u32; 16384];
+    let mut texts = [[0u32; 3]; 4096];
+    let mut bytes = [0u8; 65536];
+    let mut tasks = [[0u32; 9]; 512];
+    let mut results = [[0u32; 2]; 512];
+    let mut pending = [[0u64; 7]; 512];
+    let mut index = [0u64; 2048];
+    let mut entries = [[0u64; 6]; 1024];
+    let mut kept = [[0u64; 6]; 1024];
+    let mut frontier = [0u64; 3584];
+    let mut plans = [[0u32; 3]; 2048];
+    let mut visit = [0usize; 512];
+    let mut depth = [0usize; 64];
+    render_for(
+        s.desk,
+        d,
+        file,
+        options,
+        b,
+        &mut nodes,
+        &mut edges,
+        &mut choices,
+        &mut texts,
+        &mut bytes,
+        &mut tasks,
+        &mut results,
+        &mut pending,
+        &mut index,
+        &mut entries,
+        &mut kept,
+        &mut frontier,
+        &mut plans,
+        &mut visit,
+        &mut depth,
+        output,
+        spans,
+    )
+}
+
+fn tell_call(s: State, r: Served, output: &[u8], spans: &[[u64; 4]]) -> State {
+    let answer = r.answer;
+    let d = r.desks;
+    let told = with_desks(s, d);
+    print_desks(told);
+    print_answer(answer, output, spans);
+    told
+}
+
+fn call_at(
+    input: &[u8],
+    from: usize,
+    s: State,
+    output: &mut [u8; 32768],
+    spans: &mut [[u64; 4]; 2048],
+) -> Turn {
+    let mut file = [0u8; 8192];
+    let mut w = [0u64; 3];
+    let at = numbers_at(input, from, &mut w);
+    let rule = number_at(input, at);
+    let read = file_at(input, at, &mut file);
+    let n = test_lines::count(read.line, &file);
+    let r = call_lent(&file[..n], options_of(w, rule.value), s, output, spans);
+    turned(tell_call(s, r, output, spans), read.next)
 }
 
 // ---- all lines
 
-// 1 `insert`, 2 `fill`, 3 `remove`, 4 `empty`, 5 `word`, by the first letter; 0 any other line.
-fn sort(c: u8) -> u8 {
+// 1 `insert`, 2 `fill`, 3 `remove`, 4 `empty`, 5 `word`, 6 `call` (not `case`), by the first letter and the third; 0 any other line.
+fn sort(c: u8, e: u8) -> u8 {
     if c == b'i' {
         return 1;
     }
@@ -408,6 +638,11 @@ fn sort(c: u8) -> u8 {
     if c == b'w' {
         return 5;
     }
+    if c == b'c' {
+        if e == b'l' {
+            return 6;
+        }
+    }
     0
 }
 
@@ -418,11 +653,19 @@ fn first_at(input: &[u8], from: usize) -> u8 {
     0
 }
 
+fn third_at(input: &[u8], from: usize) -> u8 {
+    if from < input.len() {
+        if 2 < input.len() - from {
+            return input[from + 2];
+        }
+    }
+    0
+}
+
 fn line_at(
     input: &[u8],
     from: usize,
-    h: Head,
-    b: Bounds,
+    s: State,
     table: &mut [[u64; 8]; 1024],
     files: &mut [u8; 65536],
     pages: &mut [u8; 65536],
@@ -431,20 +674,23 @@ fn line_at(
     spans: &mut [[u64; 4]; 2048],
 ) -> Turn {
     let c = first_at(input, from);
-    let k = sort(c);
+    let e = third_at(input, from);
+    let k = sort(c, e);
     if k == 0 {
-        return setting_at(input, from, c, h, b);
+        return setting_at(input, from, c, e, s);
     }
     if k == 5 {
-        return turned(h, b, word_at(input, from, table));
+        return turned(s, word_at(input, from, table));
+    }
+    if k == 6 {
+        return call_at(input, from, s, output, spans);
     }
     if 2 < k {
         return removal_at(
             input,
             from,
             k == 4,
-            h,
-            b,
+            s,
             table,
             files,
             pages,
@@ -457,8 +703,7 @@ fn line_at(
         input,
         from,
         k == 2,
-        h,
-        b,
+        s,
         table,
         files,
         pages,
@@ -468,6 +713,22 @@ fn line_at(
     )
 }
 
+// No report, no sizes; desk 0, which may do anything.
+fn begun() -> State {
+    let h = Head {
+        rows: 0,
+        width: 0,
+        newline_cost: 0,
+        policy: 0,
+        rule: 0,
+    };
+    let d = Desks {
+        allowance: [18446744073709551615u64; 8],
+        spent: [0u64; 8],
+    };
+    held(h, bounds_of([0u64; 9], [0u64; 2]), 0, d, false)
+}
+
 fn all(input: &[u8]) {
     let mut table = [[0u64; 8]; 1024];
     let mut files = [0u8; 65536];
@@ -475,14 +736,7 @@ fn all(input: &[u8]) {
     let mut marks = [[0u32; 4]; 4096];
     let mut output = [0u8; 32768];
     let mut spans = [[0u64; 4]; 2048];
-    let mut h = Head {
-        rows: 0,
-        width: 0,
-        newline_cost: 0,
-        policy: 0,
-        rule: 0,
-    };
-    let mut b = bounds_of([0u64; 9], [0u64; 2]);
+    let mut s = begun();
     let mut at: usize = 0;
     let mut k: usize = 0;
     while k < 4096 {
@@ -492,8 +746,7 @@ fn all(input: &[u8]) {
         let turn = line_at(
             input,
             at,
-            h,
-            b,
+            s,
             &mut table,
             &mut files,
             &mut pages,
@@ -501,8 +754,7 @@ fn all(input: &[u8]) {
             &mut output,
             &mut spans,
         );
-        h = turn.head;
-        b = turn.bounds;
+        s = turn.state;
         at = turn.next;
         k += 1;
     }

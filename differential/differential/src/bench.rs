@@ -8,7 +8,7 @@ use std::hint::black_box;
 use std::time::Instant;
 
 use common::{Settings, Sizes, Tables};
-use gannozhi::{Limits, Printer};
+use gannozhi::{Desks, Limits, Printer};
 use generate::Rng;
 use reference::access::Bench;
 
@@ -55,11 +55,15 @@ fn run(subject: &Subject, number: u64, times: u64) -> u64 {
     let set = gannozhi::Settings { width, newline_cost, policy, rule };
     let document = reference::access::document(tables);
     let mut rust = Bench::new(&document, settings, &subject.sizes);
+    let mut desks = Desks::all(u64::MAX);
     let mut once = || match number {
         0 => 0,
         1 => printer.read(black_box(file)).map_or(0, |counts| u64::from(counts.nodes)),
-        2 => printer.render(black_box(file), &set, &SOLVER).map_or_else(|refusal| refusal.counts.work, |_| 0),
-        3 => printer.render(black_box(file), &set, &FREE).map_or(0, |page| page.bytes.len() as u64),
+        2 => {
+            let answer = printer.render(0, &mut desks, black_box(file), &set, &SOLVER);
+            answer.map_or_else(|refusal| refusal.counts.work, |_| 0)
+        }
+        3 => printer.render(0, &mut desks, black_box(file), &set, &FREE).map_or(0, |page| page.bytes.len() as u64),
         4 => rust.solve(),
         _ => rust.render() as u64,
     };

@@ -9,7 +9,7 @@ use generate::Rng;
 use crate::compare::{number, Tally, LIMITS, PROBE};
 use crate::fixed::{self, Build};
 use crate::memory::lengths;
-use crate::ours::library::{counts, span, told};
+use crate::ours::library::{counts, desked, span, told};
 
 extern "C" {
     fn mmap(at: *mut c_void, length: usize, protection: i32, flags: i32, file: i32, offset: i64) -> *mut c_void;
@@ -89,7 +89,11 @@ impl Lent {
             lengths;
         let Settings { width, newline_cost, policy, rule } = *settings;
         let mut words = [u64::MAX; 26];
+        let mut desks = crate::ours::free(|| u64::MAX);
+        let mut charged = desks;
         let number = gannozhi::render_words(
+            0,
+            desked(&mut desks),
             file,
             &gannozhi::Settings { width, newline_cost, policy, rule },
             &gannozhi::Sizes::of(Sizes::MOST.list()),
@@ -117,6 +121,8 @@ impl Lent {
             &mut self.spans[..spans],
             &mut words,
         );
+        charged[8] = words[7];
+        assert!(desks == charged, "the desks after a call of work {}: {desks:?}", words[7]);
         told(number, &words)
     }
 

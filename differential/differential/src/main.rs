@@ -7,6 +7,8 @@
 //! `differential reports --seed S --steps N`: random sequences of steps of live reports (`--sequence I`: the one sequence of that number
 //! again; `--stand-in`: not on the library). `reports impostors`: each impostor of the stand-in must be found. `reports dear`: rows whose costs
 //! together come past their width.
+//! `differential desks --seed S --calls N`: random sequences of calls and steps for desks (`--sequence I`, `--stand-in` as above). `desks
+//! impostors`: each impostor of the stand-in must be found.
 //! `differential report --rows N --seed S`: prints the file of a report of N rows, made by prepare.rs, in hexadecimal.
 //! `differential bench`: times of ours and of the reference on the same files; `--part P --rows N --width W --times T` does one part of the
 //! work T times and prints nothing, for a count of instructions (see bench.rs).
@@ -17,6 +19,8 @@
 #[cfg(feature = "ours")]
 mod bench;
 mod compare;
+mod desks;
+mod desks_fixed;
 mod exhaustive;
 mod fixed;
 #[cfg(feature = "ours")]
@@ -63,6 +67,13 @@ fn run() -> i32 {
                 Some("impostors") => reports::impostors(seed, value("--steps").unwrap_or(20_000)),
                 Some("dear") => reports::dear(stand_in),
                 _ => reports::run(seed, value("--steps").unwrap_or(10_000), value("--sequence"), stand_in),
+            };
+        }
+        Some("desks") => {
+            let (stand_in, calls) = (arguments.iter().any(|word| word == "--stand-in"), value("--calls"));
+            return match arguments.get(1).map(String::as_str) {
+                Some("impostors") => desks::impostors(seed, calls.unwrap_or(20_000)),
+                _ => desks::run(seed, calls.unwrap_or(10_000), value("--sequence"), stand_in),
             };
         }
         Some("report") => {

@@ -1,4 +1,4 @@
-//! Our library, behind two traits: calls on one file, and live reports. It is linked here and nowhere else: by the wrapper `../bindings/rust`,
+//! Our library, behind two traits: calls on one file, and calls as they are, for desks and of live reports. It is linked here and nowhere else: by the wrapper `../bindings/rust`,
 //! unless the feature `ours` is off.
 
 use common::{Answer, Limits, Settings, Sizes, Tables};
@@ -7,9 +7,10 @@ use model::file::WriteRefusal;
 use crate::memory::Working;
 
 pub trait Printer {
-    /// The whole call on lent memory that holds anything at all: an implementation fills working memory, output, spans and the answer's words
-    /// with dirt first, and panics where the call altered what it must leave alone (output and spans on a refusal, what lies past the page's
-    /// end, a slice's length) or where a refusal's words tell more than the refusal.
+    /// The whole call, for desk 0 that may do anything, on lent memory that holds anything at all: an implementation fills working memory,
+    /// output, spans, the answer's words and those of the other desks with dirt first, and panics where the call altered what it must leave
+    /// alone (output and spans on a refusal, what lies past the page's end, a slice's length, the desks but for the work that desk 0 has spent)
+    /// or where a refusal's words tell more than the refusal.
     fn answer(&mut self, file: &[u8], settings: &Settings, sizes: &Sizes, limits: &Limits) -> Answer;
 
     /// The writer on the tables with `room` bytes lent; None where it is not linked or cannot be given these tables.
@@ -48,19 +49,36 @@ pub struct Lent<'a> {
     pub answer: &'a mut [u64; 26],
 }
 
-/// What an insertion is lent besides: the working memory of a call on its row, and where that puts the row's page and spans.
+/// What a call on one file is lent, and an insertion for the call on its row: working memory, and where page and spans are put.
 pub struct RowLent<'a> {
     pub working: &'a mut Working,
     pub output: &'a mut [u8],
     pub spans: &'a mut [[u64; 4]],
 }
 
-/// The calls of a live report, as they are: each returns the answer's first word. An implementation looks after nothing; the caller does.
+/// The calls for a desk, on one file and on live reports, as they are: each returns the answer's first word. The desks are sixteen words,
+/// allowances and then spent counts. An implementation looks after nothing; the caller does.
 pub trait Steps {
     fn open(&mut self, settings: &Settings, head: &mut [u32; 5]) -> u32;
 
+    #[allow(clippy::too_many_arguments)]
+    fn render(
+        &mut self,
+        desk: u32,
+        desks: &mut [u64; 16],
+        file: &[u8],
+        settings: &Settings,
+        sizes: &Sizes,
+        limits: &Limits,
+        lent: RowLent<'_>,
+        answer: &mut [u64; 26],
+    ) -> u32;
+
+    #[allow(clippy::too_many_arguments)]
     fn insert(
         &mut self,
+        desk: u32,
+        desks: &mut [u64; 16],
         place: usize,
         file: &[u8],
         sizes: &Sizes,
@@ -69,7 +87,16 @@ pub trait Steps {
         row: RowLent<'_>,
     ) -> u32;
 
-    fn remove(&mut self, place: usize, sizes: &Sizes, lent: Lent<'_>) -> u32;
+    fn remove(&mut self, desk: u32, desks: &mut [u64; 16], place: usize, sizes: &Sizes, lent: Lent<'_>) -> u32;
+}
+
+/// The words of the desks for a call of desk 0 that may do anything; what the others have is dirt.
+pub fn free(mut word: impl FnMut() -> u64) -> [u64; 16] {
+    std::array::from_fn(|at| match at {
+        0 => u64::MAX,
+        8 => 0,
+        _ => word(),
+    })
 }
 
 #[cfg(not(feature = "ours"))]
@@ -79,7 +106,7 @@ pub fn steps() -> Option<Box<dyn Steps>> {
 
 #[cfg(feature = "ours")]
 pub fn steps() -> Option<Box<dyn Steps>> {
-    Some(Box::new(library::Reports))
+    Some(Box::new(library::Calls))
 }
 
 #[cfg(not(feature = "ours"))]
@@ -157,12 +184,17 @@ pub mod library {
             let output_before = self.output.lent().to_vec();
             let spans_before = self.spans.lent().to_vec();
             let mut words = <[u64; 26]>::made(&mut || self.rng.word());
+            let mut desks = super::free(|| self.rng.word());
+            let mut charged = desks;
             let (tables, solver) = lend(&mut self.working);
+            let (sizes, limits) = bounds(sizes, limits);
             let number = gannozhi::render_words(
+                0,
+                desked(&mut desks),
                 file,
                 &set(settings),
-                &gannozhi::Sizes::of(sizes.list()),
-                &gannozhi::Limits { work: limits.work, visits: limits.visits },
+                &sizes,
+                &limits,
                 tables,
                 solver,
                 self.output.lent(),
@@ -170,6 +202,10 @@ pub mod library {
                 &mut words,
             );
             self.check();
+            charged[8] = words[7];
+            if desks != charged {
+                panic!("the desks after a call of work {}: {desks:?}", words[7]);
+            }
             let answer = told(number, &words);
             let (put, rows) = answer.as_ref().map_or((0, 0), |page| (page.length, page.spans));
             if self.output.lent()[put..] != output_before[put..] || self.spans.lent()[rows..] != spans_before[rows..] {
@@ -214,6 +250,12 @@ pub mod library {
         (tables, solver)
     }
 
+    /// The sixteen words as the wrapper has them.
+    pub fn desked(words: &mut [u64; 16]) -> &mut gannozhi::Desks {
+        // SAFETY: `Desks` is two arrays of eight such words, laid out as C does.
+        unsafe { &mut *std::ptr::from_mut(words).cast() }
+    }
+
     /// What the words say, of which each was dirty before the call: a refusal has neither page nor cost nor needs, and a need has 32 bits.
     pub fn told(number: u32, words: &[u64; 26]) -> Result<gannozhi::Rendered, gannozhi::Refusal> {
         let none = words[2..7].iter().chain(&words[17..]).all(|word| *word == 0);
@@ -249,21 +291,51 @@ pub mod library {
         }
     }
 
-    /// Live reports by the library.
-    pub struct Reports;
+    /// The calls by the library.
+    pub struct Calls;
 
     fn memory<'a>(lent: Lent<'a>) -> (ReportMemory<'a>, &'a mut [u8], &'a mut [[u64; 4]], &'a mut [u64; 26]) {
         let Lent { head, table, files, pages, marks, output, spans, answer } = lent;
         (ReportMemory { head, table, files, pages, marks }, output, spans, answer)
     }
 
-    impl super::Steps for Reports {
+    impl super::Steps for Calls {
         fn open(&mut self, settings: &Settings, head: &mut [u32; 5]) -> u32 {
             gannozhi::open_lent(&set(settings), head).map_or_else(|refusal| refusal.number, |()| 0)
         }
 
+        fn render(
+            &mut self,
+            desk: u32,
+            desks: &mut [u64; 16],
+            file: &[u8],
+            settings: &Settings,
+            sizes: &Sizes,
+            limits: &Limits,
+            lent: RowLent<'_>,
+            answer: &mut [u64; 26],
+        ) -> u32 {
+            let (tables, solver) = lend(lent.working);
+            let (sizes, limits) = bounds(sizes, limits);
+            gannozhi::render_words(
+                desk,
+                desked(desks),
+                file,
+                &set(settings),
+                &sizes,
+                &limits,
+                tables,
+                solver,
+                lent.output,
+                lent.spans,
+                answer,
+            )
+        }
+
         fn insert(
             &mut self,
+            desk: u32,
+            desks: &mut [u64; 16],
             place: usize,
             file: &[u8],
             sizes: &Sizes,
@@ -273,17 +345,35 @@ pub mod library {
         ) -> u32 {
             let (report, output, spans, answer) = memory(lent);
             let (tables, solver) = lend(row.working);
-            let sizes = gannozhi::Sizes::of(sizes.list());
-            let limits = gannozhi::Limits { work: limits.work, visits: limits.visits };
+            let (sizes, limits) = bounds(sizes, limits);
             gannozhi::insert_words(
-                place, file, &sizes, &limits, report, output, spans, tables, solver, row.output, row.spans, answer,
+                desk,
+                desked(desks),
+                place,
+                file,
+                &sizes,
+                &limits,
+                report,
+                output,
+                spans,
+                tables,
+                solver,
+                row.output,
+                row.spans,
+                answer,
             )
         }
 
-        fn remove(&mut self, place: usize, sizes: &Sizes, lent: Lent<'_>) -> u32 {
+        fn remove(&mut self, desk: u32, desks: &mut [u64; 16], place: usize, sizes: &Sizes, lent: Lent<'_>) -> u32 {
             let (report, output, spans, answer) = memory(lent);
-            gannozhi::remove_words(place, &gannozhi::Sizes::of(sizes.list()), report, output, spans, answer)
+            let sizes = gannozhi::Sizes::of(sizes.list());
+            gannozhi::remove_words(desk, desked(desks), place, &sizes, report, output, spans, answer)
         }
+    }
+
+    fn bounds(sizes: &Sizes, limits: &Limits) -> (gannozhi::Sizes, gannozhi::Limits) {
+        let Limits { work, visits } = *limits;
+        (gannozhi::Sizes::of(sizes.list()), gannozhi::Limits { work, visits })
     }
 
     fn set(settings: &Settings) -> gannozhi::Settings {

@@ -9,6 +9,7 @@ use std::time::Instant;
 use common::{describe, to_hex, Answer, Limits, Page, Settings, Sizes, Tables};
 use generate::files::Profile;
 use generate::Rng;
+use model::desks::Desks;
 use model::report::{Memory, Report, Step, ROWS};
 
 use crate::compare::{in_order, number, shown, Call, Comparer, PROBE};
@@ -73,7 +74,7 @@ impl Lengths {
         }
     }
 
-    fn list(&mut self) -> Vec<&mut usize> {
+    pub fn list(&mut self) -> Vec<&mut usize> {
         let Lengths { table, files, pages, marks, output, spans, working } = self;
         [table, files, pages, marks, output, spans].into_iter().chain(working).collect()
     }
@@ -87,7 +88,7 @@ pub struct Act<'a> {
 }
 
 impl Act<'_> {
-    fn describe(&self) -> String {
+    pub fn describe(&self) -> String {
         let step = match self.step {
             Step::Insert(place, file) => format!("insert at {place}, file {}", to_hex(file)),
             Step::Remove(place) => format!("remove at {place}"),
@@ -102,8 +103,9 @@ impl Act<'_> {
     }
 }
 
-/// All that is lent. The report's part keeps what it holds from step to step.
-struct Lends {
+/// All that is lent. The report's part keeps what it holds from step to step. A call on one file is lent the others.
+pub struct Lends {
+    desks: Store<u64>,
     head: Store<u32>,
     table: Store<[u64; 8]>,
     files: Store<u8>,
@@ -121,9 +123,28 @@ struct Lends {
 #[derive(Clone, PartialEq)]
 struct Saved(Vec<u32>, Vec<[u64; 8]>, Vec<u8>, Vec<u8>, Vec<[u32; 4]>);
 
+/// What a call gave: the answer's words, its page and spans, the desks.
+#[derive(Clone, Debug, Eq, PartialEq)]
+pub struct Given {
+    pub words: Vec<u64>,
+    pub bytes: Vec<u8>,
+    pub spans: Vec<[u64; 4]>,
+    pub desks: Vec<u64>,
+}
+
+/// A call beside the model's: the model's answer and report after a page; what was given; and where that is not the model's, what, with left and
+/// right.
+pub struct Taken {
+    pub answer: Answer,
+    pub after: Option<Report>,
+    pub given: Given,
+    pub unlike: Option<[String; 3]>,
+}
+
 impl Lends {
-    fn new() -> Lends {
+    pub fn new() -> Lends {
         let mut lends = Lends {
+            desks: Store::new(),
             head: Store::new(),
             table: Store::new(),
             files: Store::new(),
@@ -136,7 +157,12 @@ impl Lends {
             row_output: Store::new(),
             row_spans: Store::new(),
         };
-        lends.head.soil(&mut Rng::new(1), Dirt::Words, 5);
+        let rng = &mut Rng::new(1);
+        lends.head.soil(rng, Dirt::Words, 5);
+        lends.table.soil(rng, Dirt::Words, 0);
+        lends.files.soil(rng, Dirt::Words, 0);
+        lends.pages.soil(rng, Dirt::Words, 0);
+        lends.marks.soil(rng, Dirt::Words, 0);
         lends
     }
 
@@ -169,7 +195,7 @@ impl Lends {
     }
 
     /// Lends the report so much, with dirt behind what it holds.
-    fn lend_report(&mut self, rng: &mut Rng, report: &Report, lengths: &Lengths) {
+    pub fn lend_report(&mut self, rng: &mut Rng, report: &Report, lengths: &Lengths) {
         let (rows, sums) = (report.rows.len(), sums(report));
         let dirt = [0; 4].map(|_| Dirt::any(rng));
         self.table.soil_behind(rng, dirt[0], rows, lengths.table);
@@ -188,7 +214,13 @@ impl Lends {
         self.answer.soil(rng, Dirt::Words, 26);
     }
 
+    fn lend_desks(&mut self, rng: &mut Rng, words: [u64; 16]) {
+        self.desks.soil(rng, Dirt::Words, 16);
+        self.desks.lent().copy_from_slice(&words);
+    }
+
     fn check(&self) {
+        self.desks.check("desks");
         self.head.check("head");
         self.table.check("table");
         self.files.check("files");
@@ -202,7 +234,8 @@ impl Lends {
         self.row_spans.check("row spans");
     }
 
-    fn call(&mut self, steps: &mut dyn Steps, act: &Act) -> u32 {
+    fn step(&mut self, steps: &mut dyn Steps, desk: u32, act: &Act) -> u32 {
+        let desks = self.desks.lent().try_into().expect("sixteen words");
         let lent = Lent {
             head: self.head.lent().try_into().expect("five words"),
             table: self.table.lent(),
@@ -214,16 +247,138 @@ impl Lends {
             answer: self.answer.lent().try_into().expect("26 words"),
         };
         match act.step {
-            Step::Remove(place) => steps.remove(place, &act.sizes, lent),
+            Step::Remove(place) => steps.remove(desk, desks, place, &act.sizes, lent),
             Step::Insert(place, file) => {
                 let row = RowLent {
                     working: &mut self.working,
                     output: self.row_output.lent(),
                     spans: self.row_spans.lent(),
                 };
-                steps.insert(place, file, &act.sizes, &act.limits, lent, row)
+                steps.insert(desk, desks, place, file, &act.sizes, &act.limits, lent, row)
             }
         }
+    }
+
+    fn render(&mut self, steps: &mut dyn Steps, desk: u32, call: &Call) -> u32 {
+        let desks = self.desks.lent().try_into().expect("sixteen words");
+        let answer = self.answer.lent().try_into().expect("26 words");
+        let lent = RowLent { working: &mut self.working, output: self.output.lent(), spans: self.spans.lent() };
+        steps.render(desk, desks, call.file, &call.settings, &call.sizes, &call.limits, lent, answer)
+    }
+
+    /// What was given, and where it is not as the model says, or altered what it must leave alone.
+    fn given(
+        &self,
+        number: u32,
+        answer: &Answer,
+        desks: &Desks,
+        output: &[u8],
+        spans: &[[u64; 4]],
+    ) -> (Given, Option<[String; 3]>) {
+        let (told, right) = (self.answer.held().to_vec(), words(answer));
+        let (put, list) = answer.as_ref().map_or((&[][..], vec![]), |page| (&page.bytes[..], rows(page)));
+        let held = self.desks.held();
+        let unlike = if told != right || u64::from(number) != right[0] {
+            Some(["the answer".to_string(), format!("{told:?}, returned {number}"), format!("{right:?}")])
+        } else if held != desks.words() {
+            Some(["the desks".to_string(), format!("{held:?}"), format!("{:?}", desks.words())])
+        } else if !is(self.output.held(), put, output) || !is(self.spans.held(), &list, spans) {
+            let got = format!("{}\n{:?}", self.output.held().escape_ascii(), self.spans.held());
+            Some(["output and spans".to_string(), got, describe(answer)])
+        } else {
+            None
+        };
+        let front = |word: usize, most: usize| (told[word] as usize).min(most);
+        let (length, count) = (front(2, output.len()), front(3, spans.len()));
+        let given = Given {
+            bytes: self.output.held()[..length].to_vec(),
+            spans: self.spans.held()[..count].to_vec(),
+            desks: held.to_vec(),
+            words: told,
+        };
+        (given, unlike)
+    }
+
+    /// The step for a desk on memory as it stands, which holds the report where it is sound. Where it is not as the model says, the report is put
+    /// back.
+    pub fn taken(
+        &mut self,
+        steps: &mut dyn Steps,
+        rng: &mut Rng,
+        (desk, desks): (u32, &Desks),
+        report: &Report,
+        act: &Act,
+    ) -> Taken {
+        self.soil(rng, &act.lengths);
+        self.lend_desks(rng, desks.words());
+        let lent = self.suffices(act);
+        let mut desks = *desks;
+        let (answer, after) = desks.step(desk, report, &act.step, &act.sizes, &act.limits, lent);
+        let before = self.saved();
+        let (output, spans) = (self.output.held().to_vec(), self.spans.held().to_vec());
+        let number = self.step(steps, desk, act);
+        self.check();
+        let (given, mut unlike) = self.given(number, &answer, &desks, &output, &spans);
+        if unlike.is_none() {
+            let held = match &after {
+                Some(after) => self.unlike(after),
+                None => (self.saved() != before).then(|| "altered by a refusal".to_string()),
+            };
+            unlike = held.map(|held| ["the report in memory".to_string(), held, String::new()]);
+        }
+        if unlike.is_some() {
+            self.put_back(&before);
+        }
+        let after = after.filter(|_| unlike.is_none());
+        Taken { answer, after, given, unlike }
+    }
+
+    /// A call on one file for a desk, lent so much. There is no report.
+    pub fn called(
+        &mut self,
+        steps: &mut dyn Steps,
+        rng: &mut Rng,
+        (desk, desks): (u32, &Desks),
+        call: &Call,
+        lent: &[usize; 17],
+    ) -> Taken {
+        let step = Step::Insert(0, call.file);
+        let just = Lengths::of([0; 3], &step, &call.sizes);
+        self.soil(rng, &Lengths { output: lent[15], spans: lent[16], working: *lent, ..just });
+        self.lend_desks(rng, desks.words());
+        let enough = lent.iter().zip(just.working).all(|(lent, need)| *lent >= need);
+        let mut desks = *desks;
+        let answer = desks.call(desk, call.file, &call.settings, &call.sizes, &call.limits, enough);
+        let (output, spans) = (self.output.held().to_vec(), self.spans.held().to_vec());
+        let number = self.render(steps, desk, call);
+        self.check();
+        let (given, unlike) = self.given(number, &answer, &desks, &output, &spans);
+        Taken { answer, after: None, given, unlike }
+    }
+
+    /// A report that no step has written: so many rows without bytes, of files without bytes.
+    pub fn empty_rows(&mut self, rng: &mut Rng, settings: Settings, rows: u32) -> Report {
+        let Settings { width, newline_cost, policy, rule } = settings;
+        self.head.soil(rng, Dirt::Words, 5);
+        self.head.lent().copy_from_slice(&[rows, width, newline_cost, policy, rule]);
+        self.table.soil(rng, Dirt::Words, ROWS);
+        self.table.lent()[..rows as usize].fill([0; 8]);
+        self.files.soil(rng, Dirt::Words, 0);
+        self.pages.soil(rng, Dirt::Words, 0);
+        self.marks.soil(rng, Dirt::Words, 0);
+        self.memory().report()
+    }
+
+    /// A report without rows: its head, or what stands there where the setting is not right. Whether it is as it must be.
+    pub fn open(&mut self, steps: &mut dyn Steps, rng: &mut Rng, settings: &Settings) -> bool {
+        let right = in_order(settings);
+        self.head.soil(rng, Dirt::Words, 5);
+        let before = self.head.held().to_vec();
+        let number = steps.open(settings, self.head.lent().try_into().expect("five words"));
+        self.head.check("head");
+        let Settings { width, newline_cost, policy, rule } = *settings;
+        let want = if right { vec![0, width, newline_cost, policy, rule] } else { before };
+        number == u32::from(!right) && self.head.held() == want
     }
 
     /// Whether nothing that is lent is a reason for 1.
@@ -364,23 +519,14 @@ impl Runner {
     }
 
     pub fn open(&mut self, settings: Settings) -> Report {
-        let right = in_order(&settings);
-        self.tally.opened[usize::from(!right)] += 1;
-        self.lends.head.soil(&mut self.rng, Dirt::Words, 5);
-        let before = self.lends.head.held().to_vec();
-        let head: &mut [u32; 5] = self.lends.head.lent().try_into().expect("five words");
-        let number = self.steps.open(&settings, head);
-        self.lends.head.check("head");
-        let Settings { width, newline_cost, policy, rule } = settings;
-        let want = if right { vec![0, width, newline_cost, policy, rule] } else { before };
-        let report = Report::open(settings);
-        if number != u32::from(!right) || self.lends.head.held() != want {
+        self.tally.opened[usize::from(!in_order(&settings))] += 1;
+        if !self.lends.open(&mut *self.steps, &mut self.rng, &settings) {
             self.comparer.tally.differences += 1;
             if !self.quiet {
-                println!("DIFFERENCE: open {settings:?}: {number}, head {:?}, not {want:?}", self.lends.head.held());
+                println!("DIFFERENCE: open {settings:?}: head {:?}", self.lends.head.held());
             }
         }
-        report
+        Report::open(settings)
     }
 
     /// The cost words of a row as they stand in memory altered: the report that is then read off it.
@@ -408,41 +554,21 @@ impl Runner {
     pub fn told(&mut self, report: &Report, act: &Act) -> Vec<u64> {
         self.lends.lend_report(&mut self.rng, report, &act.lengths);
         self.lends.soil(&mut self.rng, &act.lengths);
-        self.lends.call(&mut *self.steps, act);
+        let desks = ours::free(|| self.rng.word());
+        self.lends.lend_desks(&mut self.rng, desks);
+        self.lends.step(&mut *self.steps, 0, act);
         self.lends.check();
         self.lends.answer.held().to_vec()
     }
 
-    /// The step on memory as it stands, which holds the report where it is sound.
+    /// The step on memory as it stands, for desk 0 that may do anything.
     fn attempt(&mut self, report: &Report, act: &Act) -> (Answer, Option<Report>) {
-        self.lends.soil(&mut self.rng, &act.lengths);
-        let lent = self.lends.suffices(act);
-        let (want, after) = report.step(&act.step, &act.sizes, &act.limits, lent);
-        let before = self.lends.saved();
-        let (output, spans) = (self.lends.output.held().to_vec(), self.lends.spans.held().to_vec());
-        let number = self.lends.call(&mut *self.steps, act);
-        self.lends.check();
-        let (told, right) = (self.lends.answer.held().to_vec(), words(&want));
-        if told != right || u64::from(number) != right[0] {
-            self.differ("the answer", report, act, &format!("{told:?}, returned {number}"), &format!("{right:?}"));
-            self.lends.put_back(&before);
-            return (want, None);
+        let desks = Desks::of(ours::free(|| self.rng.word()));
+        let taken = self.lends.taken(&mut *self.steps, &mut self.rng, (0, &desks), report, act);
+        if let Some([what, left, right]) = taken.unlike {
+            self.differ(&what, report, act, &left, &right);
         }
-        let (put, list) = want.as_ref().map_or((&[][..], vec![]), |page| (&page.bytes[..], rows(page)));
-        if !is(self.lends.output.held(), put, &output) || !is(self.lends.spans.held(), &list, &spans) {
-            let got = format!("{}\n{:?}", self.lends.output.held().escape_ascii(), self.lends.spans.held());
-            self.differ("output and spans", report, act, &got, &describe(&want));
-        }
-        let unlike = match &after {
-            Some(after) => self.lends.unlike(after),
-            None => (self.lends.saved() != before).then(|| "altered by a refusal".to_string()),
-        };
-        if let Some(unlike) = unlike {
-            self.differ("the report in memory", report, act, &unlike, "");
-            self.lends.put_back(&before);
-            return (want, None);
-        }
-        (want, after)
+        (taken.answer, taken.after)
     }
 
     /// The page that the rows make is the one document's, by the model, by the reference, by our library where it is a file of the usual limits,
@@ -699,7 +825,7 @@ fn is<T: PartialEq>(all: &[T], new: &[T], before: &[T]) -> bool {
 }
 
 #[derive(Clone, Copy, PartialEq)]
-enum Style {
+pub enum Style {
     /// Few rows with few layouts.
     Small,
     Usual,
@@ -758,7 +884,7 @@ fn tables(rng: &mut Rng, style: Style, settings: &Settings) -> Tables {
     }
 }
 
-fn file(rng: &mut Rng, style: Style, settings: &Settings) -> Vec<u8> {
+pub fn file(rng: &mut Rng, style: Style, settings: &Settings) -> Vec<u8> {
     if style == Style::Extreme && rng.chance(8) {
         return crate::reports_fixed::dear_choice(rng.pick(&[0, 1, 2, u32::MAX]));
     }
@@ -775,7 +901,7 @@ fn file(rng: &mut Rng, style: Style, settings: &Settings) -> Vec<u8> {
 }
 
 /// Sizes about what the row's call and the whole page need.
-fn sizes(rng: &mut Rng, needs: Sizes, whole: (u32, u32)) -> Sizes {
+pub fn sizes(rng: &mut Rng, needs: Sizes, whole: (u32, u32)) -> Sizes {
     let exact = Sizes { output: whole.0, spans: whole.1, ..needs };
     let list = exact.list();
     match rng.below(12) {
@@ -793,7 +919,7 @@ fn sizes(rng: &mut Rng, needs: Sizes, whole: (u32, u32)) -> Sizes {
     }
 }
 
-fn place(rng: &mut Rng, places: usize) -> usize {
+pub fn place(rng: &mut Rng, places: usize) -> usize {
     match rng.below(16) {
         0 => places + rng.index(3),
         1 if rng.chance(3) => rng.pick(&[1_023, 1_024, 1_025, usize::MAX, 1 << 32, u32::MAX as usize]),
@@ -801,6 +927,72 @@ fn place(rng: &mut Rng, places: usize) -> usize {
         4 | 5 => places.saturating_sub(1),
         _ if places > 0 => rng.index(places),
         _ => 0,
+    }
+}
+
+/// A step with all that is drawn for it.
+pub struct Drawn<'a> {
+    pub act: Act<'a>,
+    /// Whether a slice is one item short.
+    pub short: bool,
+    /// Of the row's own call under sizes that suffice; None where no file is read.
+    pub row: Option<Answer>,
+}
+
+impl Drawn<'_> {
+    /// In one step of so many a slice is short.
+    pub fn new<'a>(rng: &mut Rng, report: &Report, step: Step<'a>, one_short: u64) -> Drawn<'a> {
+        let tables = match step {
+            Step::Insert(_, file) => model::file::read(file).ok(),
+            Step::Remove(_) => None,
+        };
+        let probe = tables.map(|tables| model::render(&tables, &report.settings, &PROBE, &LIMITS));
+        let needs = match (&probe, step) {
+            (Some((_, trace)), _) => Sizes::of(trace.needs.map(|need| need as u32)),
+            (None, Step::Remove(_)) => Sizes::NONE,
+            (None, _) => Sizes { output: 64, spans: 8, ..Sizes::PAGE },
+        };
+        let place = match step {
+            Step::Insert(place, _) | Step::Remove(place) => place,
+        };
+        let after = match (&probe, step) {
+            (Some((Ok(page), _)), Step::Insert(_, file)) if place <= report.rows.len() => {
+                report.with(place, file, page)
+            }
+            (_, Step::Remove(_)) if place < report.rows.len() => report.without(place),
+            _ => report.clone(),
+        };
+        let whole = after.whole();
+        let sizes = sizes(rng, needs, (whole.bytes.len() as u32, whole.spans.len() as u32));
+        let row = probe.map(|(answer, _)| answer);
+        let mut limits = LIMITS;
+        if let (Some(answer), true) = (&row, rng.chance(10)) {
+            let counts = crate::compare::counts(answer);
+            let less = rng.below(2);
+            match rng.below(2) {
+                0 => limits.work = counts.work.saturating_sub(less),
+                _ => limits.visits = counts.visits.saturating_sub(less),
+            }
+        }
+        let just = Lengths::of(sums(report), &step, &sizes);
+        let mut lengths = just.clone();
+        if rng.chance(2) {
+            let extra = rng.within(1, 3) as usize;
+            for length in lengths.list() {
+                *length += if rng.chance(2) { extra } else { 0 };
+            }
+        }
+        let mut short = rng.chance(one_short);
+        if short {
+            let mut list = lengths.list();
+            let most = if matches!(step, Step::Insert(..)) { list.len() } else { 6 };
+            let at = if rng.chance(2) { rng.index(6) } else { rng.index(most) };
+            // One short: no more than just suffices, less one.
+            let just = *just.clone().list()[at];
+            *list[at] = just.saturating_sub(1);
+            short = just > 0;
+        }
+        Drawn { act: Act { step, sizes, limits, lengths }, short, row }
     }
 }
 
@@ -859,56 +1051,8 @@ impl Runner {
 
     /// A step with sizes, limits and lengths drawn.
     fn drawn(&mut self, rng: &mut Rng, report: &mut Report, step: Step, alien: bool) {
-        let tables = match step {
-            Step::Insert(_, file) => model::file::read(file).ok(),
-            Step::Remove(_) => None,
-        };
-        let probe = tables.map(|tables| model::render(&tables, &report.settings, &PROBE, &LIMITS));
-        let needs = match (&probe, step) {
-            (Some((_, trace)), _) => Sizes::of(trace.needs.map(|need| need as u32)),
-            (None, Step::Remove(_)) => Sizes::NONE,
-            (None, _) => Sizes { output: 64, spans: 8, ..Sizes::PAGE },
-        };
-        let place = match step {
-            Step::Insert(place, _) | Step::Remove(place) => place,
-        };
-        let after = match (&probe, step) {
-            (Some((Ok(page), _)), Step::Insert(_, file)) if place <= report.rows.len() => {
-                report.with(place, file, page)
-            }
-            (_, Step::Remove(_)) if place < report.rows.len() => report.without(place),
-            _ => report.clone(),
-        };
-        let whole = after.whole();
-        let sizes = sizes(rng, needs, (whole.bytes.len() as u32, whole.spans.len() as u32));
-        let mut limits = LIMITS;
-        if let (Some((answer, _)), true) = (&probe, rng.chance(10)) {
-            let counts = crate::compare::counts(answer);
-            let less = rng.below(2);
-            match rng.below(2) {
-                0 => limits.work = counts.work.saturating_sub(less),
-                _ => limits.visits = counts.visits.saturating_sub(less),
-            }
-        }
-        let just = Lengths::of(sums(report), &step, &sizes);
-        let mut lengths = just.clone();
-        if rng.chance(2) {
-            let extra = rng.within(1, 3) as usize;
-            for length in lengths.list() {
-                *length += if rng.chance(2) { extra } else { 0 };
-            }
-        }
-        let short = rng.chance(15);
-        if short {
-            let mut list = lengths.list();
-            let most = if matches!(step, Step::Insert(..)) { list.len() } else { 6 };
-            let at = if rng.chance(2) { rng.index(6) } else { rng.index(most) };
-            // One short: no more than just suffices, less one.
-            let just = *just.clone().list()[at];
-            *list[at] = just.saturating_sub(1);
-            self.tally.short += u64::from(just > 0);
-        }
-        let mut act = Act { step, sizes, limits, lengths };
+        let Drawn { mut act, short, .. } = Drawn::new(rng, report, step, 15);
+        self.tally.short += u64::from(short);
         self.tally.alien += u64::from(alien);
         let before = rng.chance(8).then(|| self.lends.saved());
         let (answer, next) = self.step(report, &act);
@@ -928,19 +1072,36 @@ impl Runner {
     }
 }
 
-/// Steps on the library, or on the stand-in where that is asked for or no library is linked.
-pub fn run(seed: u64, steps: u64, only: Option<u64>, stand_in: bool) -> i32 {
+/// What is run in sequences, each made from a seed and its number.
+pub trait Sequences {
+    fn sequence(&mut self, seed: u64, index: u64);
+    fn taken(&self) -> u64;
+    fn differences(&self) -> u64;
+}
+
+impl Sequences for Runner {
+    fn sequence(&mut self, seed: u64, index: u64) {
+        Runner::sequence(self, seed, index);
+    }
+
+    fn taken(&self) -> u64 {
+        self.steps_taken()
+    }
+
+    fn differences(&self) -> u64 {
+        self.comparer.tally.differences
+    }
+}
+
+/// Sequences until so many steps or calls are taken, or one alone; it stops where there are many differences.
+pub fn sequences(runner: &mut impl Sequences, what: &str, by: &str, seed: u64, most: u64, only: Option<u64>) {
     let start = Instant::now();
-    let linked = ours::steps().filter(|_| !stand_in);
-    let by = if linked.is_some() { "our library" } else { "the stand-in" };
-    let mut runner = Runner::new(linked.unwrap_or(Box::new(Standin { slip: None })), false);
-    crate::reports_fixed::run(&mut runner);
     let (mut index, mut shown) = (only.unwrap_or(0), 0);
     let last = if only.is_some() { index } else { u64::MAX };
-    while runner.steps_taken() < steps && index <= last {
-        let before = runner.comparer.tally.differences;
+    while runner.taken() < most && index <= last {
+        let before = runner.differences();
         runner.sequence(seed, index);
-        let differences = runner.comparer.tally.differences;
+        let differences = runner.differences();
         if differences > before {
             println!("(that was --seed {seed} --sequence {index})");
         }
@@ -951,12 +1112,21 @@ pub fn run(seed: u64, steps: u64, only: Option<u64>, stand_in: bool) -> i32 {
         let seconds = start.elapsed().as_secs();
         if seconds > shown {
             shown = seconds;
-            eprint!("\r{} of {steps} steps, {differences} differences, {seconds} s  ", runner.steps_taken());
+            eprint!("\r{} of {most} {what}, {differences} differences, {seconds} s  ", runner.taken());
         }
         index += 1;
     }
     eprintln!();
-    println!("seed {seed}: {} steps by {by} in {:.1} s", runner.steps_taken(), start.elapsed().as_secs_f64());
+    println!("seed {seed}: {} {what} by {by} in {:.1} s", runner.taken(), start.elapsed().as_secs_f64());
+}
+
+/// Steps on the library, or on the stand-in where that is asked for or no library is linked.
+pub fn run(seed: u64, steps: u64, only: Option<u64>, stand_in: bool) -> i32 {
+    let linked = ours::steps().filter(|_| !stand_in);
+    let by = if linked.is_some() { "our library" } else { "the stand-in" };
+    let mut runner = Runner::new(linked.unwrap_or(Box::new(Standin::new(None))), false);
+    crate::reports_fixed::run(&mut runner);
+    sequences(&mut runner, "steps", by, seed, steps, only);
     runner.report();
     i32::from(runner.comparer.tally.differences > 0)
 }
@@ -965,9 +1135,9 @@ pub fn run(seed: u64, steps: u64, only: Option<u64>, stand_in: bool) -> i32 {
 pub fn impostors(seed: u64, steps: u64) -> i32 {
     let mut missed = 0;
     std::panic::set_hook(Box::new(|_| {}));
-    for slip in Slip::ALL {
+    for slip in Slip::OF_REPORTS {
         let differs = |run: &mut dyn FnMut(&mut Runner)| {
-            let mut runner = Runner::new(Box::new(Standin { slip: Some(slip) }), true);
+            let mut runner = Runner::new(Box::new(Standin::new(Some(slip))), true);
             let stopped = catch_unwind(AssertUnwindSafe(|| run(&mut runner))).is_err();
             (stopped || runner.comparer.tally.differences > 0, runner.steps_taken())
         };
@@ -983,14 +1153,14 @@ pub fn impostors(seed: u64, steps: u64) -> i32 {
         let found = |found: bool| if found { "found" } else { "NOT FOUND" };
         println!("{slip:?}: by the fixed cases {}, by random steps {}, {after} steps", found(fixed), found(random));
     }
-    println!("impostors {}, not found by random steps {missed}", Slip::ALL.len());
+    println!("impostors {}, not found by random steps {missed}", Slip::OF_REPORTS.len());
     i32::from(missed > 0)
 }
 
 /// Rows whose costs come past their width by themselves.
 pub fn dear(stand_in: bool) -> i32 {
     let linked = ours::steps().filter(|_| !stand_in);
-    let mut runner = Runner::new(linked.unwrap_or(Box::new(Standin { slip: None })), false);
+    let mut runner = Runner::new(linked.unwrap_or(Box::new(Standin::new(None))), false);
     crate::reports_fixed::dear(&mut runner);
     i32::from(runner.comparer.tally.differences > 0)
 }

@@ -20,7 +20,7 @@ enum Want<'a> {
 }
 use Want::{Page, Refused};
 
-fn text(text: &str) -> Vec<u8> {
+pub fn text(text: &str) -> Vec<u8> {
     let mut b = Build::new();
     b.text(text);
     b.file()

@@ -1,13 +1,13 @@
-//! A stand-in for the library's live reports, on the same memory: rows' words, files, pages and spans moved as they stand there, and of a single
-//! call the model's answer. With it the harness runs where the library is not linked; and with its impostors, each of which makes one slip,
-//! the harness shows that it finds them.
+//! A stand-in for the library's calls for desks and its live reports, on the same memory: rows' words, files, pages and spans moved as they stand
+//! there, work charged in the desks' words, and of a single call the model's answer. With it the harness runs where the library is not linked;
+//! and with its impostors, each of which makes one slip, the harness shows that it finds them.
 
 use common::{Counts, Limits, Refusal, Settings, Sizes, Span};
 
 use crate::compare::in_order;
 use crate::memory::{lengths, Working};
 use crate::ours::{Lent, RowLent, Steps};
-use crate::reports::words;
+use crate::reports::{rows, words};
 
 const ROWS: usize = 1_024;
 
@@ -44,10 +44,36 @@ pub enum Slip {
     WordsLeft,
     RuleForgotten,
     OpensAnything,
+    ChargedToFirst,
+    ChargedToNext,
+    ChargedTwice,
+    RefusedFree,
+    VisitsCharged,
+    SpentSet,
+    SpentLowered,
+    SpentAllAtTwelve,
+    AllowanceUsed,
+    GreaterLimit,
+    AllowanceAlone,
+    LimitAlone,
+    OneUnitMore,
+    OneUnitLess,
+    LeftWraps,
+    LeftOfAll,
+    TwelveTellsNeeded,
+    StackNotBeforeAllowance,
+    RemovalWantsWork,
+    SeventhRefused,
+    EighthServed,
+    DeskInEightBits,
+    DeskBeforeOrder,
+    DeskAfterPlace,
+    DeskAfterFile,
 }
 
 impl Slip {
-    pub const ALL: [Slip; 31] = [
+    /// Each must be found by steps for one desk that may do anything.
+    pub const OF_REPORTS: [Slip; 31] = [
         Slip::NoNewline,
         Slip::NewlineTooOften,
         Slip::NewlineFree,
@@ -80,10 +106,47 @@ impl Slip {
         Slip::RuleForgotten,
         Slip::OpensAnything,
     ];
+
+    /// Each must be found by calls and steps of several desks.
+    pub const OF_DESKS: [Slip; 25] = [
+        Slip::ChargedToFirst,
+        Slip::ChargedToNext,
+        Slip::ChargedTwice,
+        Slip::RefusedFree,
+        Slip::VisitsCharged,
+        Slip::SpentSet,
+        Slip::SpentLowered,
+        Slip::SpentAllAtTwelve,
+        Slip::AllowanceUsed,
+        Slip::GreaterLimit,
+        Slip::AllowanceAlone,
+        Slip::LimitAlone,
+        Slip::OneUnitMore,
+        Slip::OneUnitLess,
+        Slip::LeftWraps,
+        Slip::LeftOfAll,
+        Slip::TwelveTellsNeeded,
+        Slip::StackNotBeforeAllowance,
+        Slip::RemovalWantsWork,
+        Slip::SeventhRefused,
+        Slip::EighthServed,
+        Slip::DeskInEightBits,
+        Slip::DeskBeforeOrder,
+        Slip::DeskAfterPlace,
+        Slip::DeskAfterFile,
+    ];
+
+    /// Those by which what a desk gets depends on the others.
+    pub const OF_OTHERS: [Slip; 5] =
+        [Slip::ChargedToFirst, Slip::ChargedToNext, Slip::LeftOfAll, Slip::EighthServed, Slip::DeskInEightBits];
 }
 
 pub struct Standin {
-    pub slip: Option<Slip>,
+    slip: Option<Slip>,
+    /// Of the call under way: its desk and its words, and then its counts.
+    desk: u32,
+    desks: [u64; 16],
+    counts: Counts,
 }
 
 /// A new row's file, and what the call on it is lent.
@@ -128,8 +191,141 @@ fn working_enough(working: &Working, sizes: &Sizes) -> bool {
 }
 
 impl Standin {
+    pub fn new(slip: Option<Slip>) -> Standin {
+        Standin { slip, desk: 0, desks: [0; 16], counts: Counts::default() }
+    }
+
     fn slips(&self, slip: Slip) -> bool {
         self.slip == Some(slip)
+    }
+
+    /// Whether there is no such desk.
+    fn no_desk(&self) -> bool {
+        match self.slip {
+            Some(Slip::SeventhRefused) => self.desk > 6,
+            Some(Slip::EighthServed) => self.desk > 8,
+            Some(Slip::DeskInEightBits) => self.desk as u8 > 7,
+            _ => self.desk > 7,
+        }
+    }
+
+    /// Where its allowance stands.
+    fn own(&self) -> usize {
+        self.desk as usize % 8
+    }
+
+    /// The limits of a call: its own, and the work that the desk may still do.
+    fn limits(&self, limits: &Limits) -> Limits {
+        let (allowance, spent) = (self.desks[self.own()], self.desks[8 + self.own()]);
+        let left = match self.slip {
+            Some(Slip::LeftWraps) => allowance.wrapping_sub(spent),
+            Some(Slip::LeftOfAll) => self.desks[8..].iter().fold(allowance, |left, spent| left.saturating_sub(*spent)),
+            Some(Slip::OneUnitMore) => allowance.saturating_sub(spent).saturating_add(1),
+            Some(Slip::OneUnitLess) => allowance.saturating_sub(spent).saturating_sub(1),
+            _ => allowance.saturating_sub(spent),
+        };
+        let work = match self.slip {
+            Some(Slip::GreaterLimit) => left.max(limits.work),
+            Some(Slip::AllowanceAlone) => left,
+            Some(Slip::LimitAlone) => limits.work,
+            _ => left.min(limits.work),
+        };
+        // The model is not to go on for ever.
+        Limits { work: work.min(100_000), visits: limits.visits }
+    }
+
+    /// The single call's answer.
+    fn answer(&self, file: &[u8], settings: &Settings, sizes: &Sizes, limits: &Limits) -> common::Answer {
+        let limits = self.limits(limits);
+        if self.slips(Slip::StackNotBeforeAllowance) && limits.work == 0 && model::file::read(file).is_ok() {
+            return Err(Refusal::early(12));
+        }
+        let answer = model::answer(file, settings, sizes, &limits);
+        answer.map_err(|refusal| {
+            let told = self.slips(Slip::TwelveTellsNeeded) && refusal.number == 12;
+            Refusal { needed: if told { 1 } else { refusal.needed }, ..refusal }
+        })
+    }
+
+    /// The desks' words after the call.
+    fn charge(&self, number: u32, desks: &mut [u64; 16]) {
+        let counts = self.counts;
+        if self.no_desk() || self.slips(Slip::RefusedFree) && number != 0 {
+            return;
+        }
+        let to = match self.slip {
+            Some(Slip::ChargedToFirst) => 0,
+            Some(Slip::ChargedToNext) => (self.own() + 1) % 8,
+            _ => self.own(),
+        };
+        let work = match self.slip {
+            Some(Slip::ChargedTwice) => 2 * counts.work,
+            Some(Slip::VisitsCharged) => counts.visits,
+            _ => counts.work,
+        };
+        let spent = &mut desks[8 + to];
+        *spent = if self.slips(Slip::SpentSet) && number != 1 { work } else { spent.wrapping_add(work) };
+        let allowance = &mut desks[self.own()];
+        if self.slips(Slip::AllowanceUsed) {
+            *allowance = allowance.saturating_sub(work);
+        }
+        let allowance = *allowance;
+        let spent = &mut desks[8 + self.own()];
+        if self.slips(Slip::SpentLowered) {
+            *spent = (*spent).min(allowance);
+        }
+        if self.slips(Slip::SpentAllAtTwelve) && number == 12 {
+            *spent = (*spent).max(allowance);
+        }
+    }
+
+    /// The call for a desk: it leaves its counts.
+    fn serve(&mut self, desk: u32, desks: &mut [u64; 16], call: impl FnOnce(&mut Standin) -> u32) -> u32 {
+        (self.desk, self.desks, self.counts) = (desk, *desks, Counts::default());
+        let number = call(self);
+        self.charge(number, desks);
+        number
+    }
+
+    /// A call on one file.
+    fn single(
+        &mut self,
+        file: &[u8],
+        settings: &Settings,
+        sizes: &Sizes,
+        limits: &Limits,
+        lent: RowLent,
+        answer: &mut [u64; 26],
+    ) -> u32 {
+        let enough = in_order(settings)
+            && working_enough(lent.working, sizes)
+            && lent.output.len() >= sizes.output as usize
+            && lent.spans.len() >= sizes.spans as usize;
+        let gates = [(1, !enough), (28, self.no_desk())];
+        let order = if self.slips(Slip::DeskBeforeOrder) { [1, 0] } else { [0, 1] };
+        let mut said = Ok(());
+        for (number, closed) in order.map(|at| gates[at]) {
+            if closed && said.is_ok() {
+                said = Err(Refusal::early(number));
+            }
+        }
+        if self.slips(Slip::DeskAfterFile) && enough && self.no_desk() {
+            said = model::file::read(file).map(|_| ()).map_err(Refusal::early).and(said);
+        }
+        let said = said.and_then(|()| self.answer(file, settings, sizes, limits));
+        *answer = words(&said);
+        match said {
+            Ok(page) => {
+                lent.output[..page.bytes.len()].copy_from_slice(&page.bytes);
+                lent.spans[..page.spans.len()].copy_from_slice(&rows(&page));
+                self.counts = page.counts;
+                0
+            }
+            Err(refusal) => {
+                self.counts = refusal.counts;
+                refusal.number
+            }
+        }
     }
 
     /// The sums of the first three words over the rows, where memory is sound.
@@ -152,7 +348,8 @@ impl Standin {
         sums.iter().zip(room).all(|(sum, room)| *sum <= room as u64).then_some(sums.map(|sum| sum as usize))
     }
 
-    fn refuse(&self, lent: Lent, number: u32, needed: u64, counts: Counts) -> u32 {
+    fn refuse(&mut self, lent: Lent, number: u32, needed: u64, counts: Counts) -> u32 {
+        self.counts = counts;
         let was = lent.answer[9];
         *lent.answer = words(&Err(Refusal { number, needed, counts }));
         if self.slips(Slip::WordsLeft) {
@@ -177,6 +374,9 @@ impl Standin {
         if self.slips(Slip::PlaceBeforeOrder) && !there {
             return self.refuse(lent, 23, 0, none);
         }
+        if self.slips(Slip::DeskBeforeOrder) && self.no_desk() {
+            return self.refuse(lent, 28, 0, none);
+        }
         let Some(sums) = self.sums(&lent) else { return self.refuse(lent, 1, 0, none) };
         let mut enough = in_order(&settings)
             && lent.pages.len().min(lent.output.len()) >= output
@@ -193,6 +393,9 @@ impl Standin {
         if !enough {
             return self.refuse(lent, 1, 0, none);
         }
+        if self.no_desk() && !matches!(self.slip, Some(Slip::DeskAfterPlace | Slip::DeskAfterFile)) {
+            return self.refuse(lent, 28, 0, none);
+        }
         if self.slips(Slip::FullBeforePlace) && inserting && rows == ROWS {
             return self.refuse(lent, 24, 0, none);
         }
@@ -206,6 +409,14 @@ impl Standin {
             }
             return self.refuse(lent, 24, 0, none);
         }
+        if self.no_desk() {
+            let file = new.as_ref().map_or(&[][..], |new| new.file);
+            let read = if self.slips(Slip::DeskAfterFile) && inserting { model::file::read(file).err() } else { None };
+            return self.refuse(lent, read.unwrap_or(28), 0, none);
+        }
+        if self.slips(Slip::RemovalWantsWork) && !inserting && self.limits(&Limits::NONE).work == 0 {
+            return self.refuse(lent, 12, 0, none);
+        }
         let (mut counts, mut needs, mut made) = (none, Sizes::NONE, Made::default());
         let mut file = &[][..];
         if let Some(new) = new {
@@ -214,7 +425,7 @@ impl Standin {
             if self.slips(Slip::OutputLeft) {
                 own.output = own.output.saturating_sub((sums[1] + rows) as u32);
             }
-            let row = match model::answer(file, &settings, &own, new.limits) {
+            let row = match self.answer(file, &settings, &own, new.limits) {
                 Ok(row) => row,
                 Err(refusal) => return self.refuse(lent, refusal.number, refusal.needed, refusal.counts),
             };
@@ -311,6 +522,7 @@ impl Standin {
         let told = if self.slips(Slip::NeedsOfRow) { needs } else { whole };
         all[17..].copy_from_slice(&told.list().map(u64::from));
         *lent.answer = all;
+        self.counts = counts;
         0
     }
 
@@ -356,8 +568,24 @@ impl Steps for Standin {
         0
     }
 
+    fn render(
+        &mut self,
+        desk: u32,
+        desks: &mut [u64; 16],
+        file: &[u8],
+        settings: &Settings,
+        sizes: &Sizes,
+        limits: &Limits,
+        lent: RowLent<'_>,
+        answer: &mut [u64; 26],
+    ) -> u32 {
+        self.serve(desk, desks, |own| own.single(file, settings, sizes, limits, lent, answer))
+    }
+
     fn insert(
         &mut self,
+        desk: u32,
+        desks: &mut [u64; 16],
         place: usize,
         file: &[u8],
         sizes: &Sizes,
@@ -365,10 +593,10 @@ impl Steps for Standin {
         lent: Lent<'_>,
         row: RowLent<'_>,
     ) -> u32 {
-        self.step(place, Some(New { file, limits, row }), sizes, lent)
+        self.serve(desk, desks, |own| own.step(place, Some(New { file, limits, row }), sizes, lent))
     }
 
-    fn remove(&mut self, place: usize, sizes: &Sizes, lent: Lent<'_>) -> u32 {
-        self.step(place, None, sizes, lent)
+    fn remove(&mut self, desk: u32, desks: &mut [u64; 16], place: usize, sizes: &Sizes, lent: Lent<'_>) -> u32 {
+        self.serve(desk, desks, |own| own.step(place, None, sizes, lent))
     }
 }

@@ -2,6 +2,7 @@
 //! materializer, with every refusal, needed size, count and need. It shares no code with the reference and none with our library.
 //! The solver is a recursion over nodes that carries the heights of the machine's stacks as numbers; a frontier is a plain list.
 
+pub mod desks;
 pub mod file;
 mod materialize;
 mod page;
@@ -41,9 +42,14 @@ impl Reason {
     }
 }
 
+/// Whether the settings are no reason for 1.
+fn right(settings: &Settings) -> bool {
+    settings.width > 0 && settings.policy < 2 && matches!(settings.rule, 1 | 2)
+}
+
 /// The whole answer for the bytes of a file.
 pub fn answer(file: &[u8], settings: &Settings, sizes: &Sizes, limits: &Limits) -> Answer {
-    if settings.width == 0 || settings.policy > 1 || !matches!(settings.rule, 1 | 2) {
+    if !right(settings) {
         return Err(Refusal::early(1));
     }
     let tables = file::read(file).map_err(Refusal::early)?;

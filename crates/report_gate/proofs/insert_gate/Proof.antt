@@ -8,21 +8,21 @@ use Rattle.report_gate.proofs.insert_gate.Lts as lts
 use Rattle.report_gate.proofs.insertion_lent.Reads as insertion-lent-reads
 use Rattle.report_gate.proofs.number_of.Reads as number-of-reads
 
--- src/lib.rt:175:17
+-- src/lib.rt:178:17
 cast-count : tie.Need-cast-count
 cast-count c = search needs
 
--- src/lib.rt:176:9
+-- src/lib.rt:179:9
 insertion-lent-requires : tie.Need-insertion-lent-requires
 insertion-lent-requires c κs = search needs
 
--- src/lib.rt:177:5
+-- src/lib.rt:180:5
 number-of-requires : tie.Need-number-of-requires
 number-of-requires c κs = search needs
 
--- src/lib.rt:164:1
+-- src/lib.rt:166:1
 returns : tie.Need-returns
-returns c = λ table s. rw (c .number-of .ensures) (gated _ _ _ (c .before .insertion-lent .ensures table s) (tell-le _ _ (λ h. h) (λ h. h)) (tell-le _ _ (λ h. h) (λ h. h)))
+returns c = λ table s. rw (c .number-of .ensures) (gated _ _ _ _ (c .before .insertion-lent .ensures table s) (tell-le _ _ (λ h. h) (λ h. h)) (tell-le _ _ (λ h. h) (λ h. h)))
 
 pub insert-gate-spec : {M : Type 1} → statement M
 insert-gate-spec =

@@ -5,15 +5,15 @@ use Rattle.test_report.proofs.all.Statement.{statement}
 use Rattle.test_report.proofs.all.Tie as tie
 
 abbrev Inv-loop : tie.InvT-loop
-Inv-loop input table₀ files₀ pages₀ marks₀ output₀ spans₀ h₀ b₀ at₀ k₀ table files pages marks output spans h b at k =
+Inv-loop input table₀ files₀ pages₀ marks₀ output₀ spans₀ s₀ at₀ k₀ table files pages marks output spans s at k =
     k ≤ 4096
 
 abbrev μ-loop : tie.MeasureT-loop
-μ-loop input table₀ files₀ pages₀ marks₀ output₀ spans₀ h₀ b₀ at₀ k₀ table files pages marks output spans h b at k =
+μ-loop input table₀ files₀ pages₀ marks₀ output₀ spans₀ s₀ at₀ k₀ table files pages marks output spans s at k =
     4096 - k
 
-bounds-of-requires : tie.Need-bounds-of-requires Inv-loop μ-loop
-bounds-of-requires c κs = search needs
+begun-requires : tie.Need-begun-requires Inv-loop μ-loop
+begun-requires c κs = search needs
 
 loop-holds : tie.Need-loop-holds Inv-loop μ-loop
 loop-holds c = omega arith
@@ -42,7 +42,7 @@ all-spec =
     (tie.spec
     Inv-loop
     μ-loop
-    bounds-of-requires
+    begun-requires
     loop-holds
     returns
     line-at-requires

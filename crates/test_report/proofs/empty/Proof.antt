@@ -5,18 +5,21 @@ use Rattle.test_report.proofs.empty.Statement.{statement}
 use Rattle.test_report.proofs.empty.Tie as tie
 
 abbrev Inv-loop : tie.InvT-loop
-Inv-loop b table₀ files₀ pages₀ marks₀ output₀ spans₀ head₀ left₀ table files pages marks output spans head left =
+Inv-loop table₀ files₀ pages₀ marks₀ output₀ spans₀ state₀ left₀ table files pages marks output spans state left =
     0 ≤ left
 
 abbrev μ-loop : tie.MeasureT-loop
-μ-loop b table₀ files₀ pages₀ marks₀ output₀ spans₀ head₀ left₀ table files pages marks output spans head left =
+μ-loop table₀ files₀ pages₀ marks₀ output₀ spans₀ state₀ left₀ table files pages marks output spans state left =
     left
 
 loop-holds : tie.Need-loop-holds Inv-loop μ-loop
 loop-holds c = omega arith
 
-remove-requires : tie.Need-remove-requires Inv-loop μ-loop
-remove-requires c κs = search needs
+remove-row-requires : tie.Need-remove-row-requires Inv-loop μ-loop
+remove-row-requires c κs = search needs
+
+after-requires : tie.Need-after-requires Inv-loop μ-loop
+after-requires c κs = search needs
 
 sub-left : tie.Need-sub-left Inv-loop μ-loop
 sub-left c = omega arith
@@ -33,4 +36,4 @@ returns c = search needs
 pub empty-spec : {M : Type 1} → statement M
 empty-spec =
     tie.close
-    (tie.spec Inv-loop μ-loop loop-holds remove-requires sub-left loop-less loop-again returns)
+    (tie.spec Inv-loop μ-loop loop-holds remove-row-requires after-requires sub-left loop-less loop-again returns)

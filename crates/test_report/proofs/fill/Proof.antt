@@ -5,11 +5,11 @@ use Rattle.test_report.proofs.fill.Statement.{statement}
 use Rattle.test_report.proofs.fill.Tie as tie
 
 abbrev Inv-loop : tie.InvT-loop
-Inv-loop count file b table₀ files₀ pages₀ marks₀ output₀ spans₀ head₀ left₀ table files pages marks output spans head left =
+Inv-loop count file table₀ files₀ pages₀ marks₀ output₀ spans₀ state₀ left₀ table files pages marks output spans state left =
     0 ≤ left
 
 abbrev μ-loop : tie.MeasureT-loop
-μ-loop count file b table₀ files₀ pages₀ marks₀ output₀ spans₀ head₀ left₀ table files pages marks output spans head left =
+μ-loop count file table₀ files₀ pages₀ marks₀ output₀ spans₀ state₀ left₀ table files pages marks output spans state left =
     left
 
 loop-holds : tie.Need-loop-holds Inv-loop μ-loop
@@ -20,6 +20,9 @@ cast-place c = search needs
 
 insert-lent-requires : tie.Need-insert-lent-requires Inv-loop μ-loop
 insert-lent-requires c κs = search needs
+
+after-requires : tie.Need-after-requires Inv-loop μ-loop
+after-requires c κs = search needs
 
 sub-left : tie.Need-sub-left Inv-loop μ-loop
 sub-left c = omega arith
@@ -42,6 +45,7 @@ fill-spec =
     loop-holds
     cast-place
     insert-lent-requires
+    after-requires
     sub-left
     loop-less
     loop-again

@@ -1,0 +1,10 @@
+pub mod Desks
+pub mod Lent
+pub mod Served
+pub mod Layer
+pub mod Work
+pub mod Kinds
+pub mod Calls
+pub mod Isolation
+pub mod Limits
+pub mod Cases
