@@ -163,11 +163,11 @@ pub fn plan_for(
             stats: SolveStats::ZERO,
         };
     }
-    let c = allowed(desks, desk, b);
+    let lesser = allowed(desks, desk, b);
     render_plan(
         file,
         options,
-        c,
+        lesser,
         nodes,
         edges,
         choices,

@@ -12,7 +12,7 @@ use Rattle.answer.specs.Answer.{Settings, Answers, out-of-order, wrong-file, la
 use Rattle.answer.specs.Exactly.{answers-one, answered}
 use Rattle.report.specs.Report.{Report, Step}
 use Rattle.report.specs.Answers.{Admitted, Solved, inserted, removed, Tested, too-dear, no-bytes, no-spans, fits, StepAnswers, row-refused, tested}
-use Rattle.report.specs.Exactly.{Both, step-one}
+use Rattle.report.specs.Exactly.{Both, step-one, stepped}
 use Rattle.report.specs.Same.{came}
 use Rattle.desks.specs.declared.Desks.{Desks}
 use Rattle.desks.specs.Desks.{last-desk, at-most, allowed, work}
@@ -40,6 +40,13 @@ serves D d b X (yes l) c =
     by-cases (decLt last-desk d)
     (λ h. record { answer = _; state = _; desks = _; is = no-desk l h })
     (λ h. record { answer = _; state = _; desks = _; is = served l (omega (arith, h)) (c .is) })
+
+-- so each call on one file, and each step, has one for any desk and record
+pub file-served : {lent : Type 0} (D : Desks) (d : ℕ) (file : List ℕ) (c : Settings) (b : Bounds) → Dec lent → ServedBy lent D d (single file c) b tt
+file-served D d file c b l = let y = answered {lent = Unit {0}} file c (allowed D d b) (yes tt) in serves D d b tt l (record { answer = y .is; state = tt; is = y .answers })
+
+pub step-served : {lent : Type 0} (D : Desks) (d : ℕ) (X : Report) (s : Step) (b : Bounds) → Dec lent → ServedBy lent D d (step X s) b X
+step-served D d X s b l = let y = stepped {lent = Unit {0}} X (allowed D d b) (yes tt) s in serves D d b X l (record { answer = y .is; state = y .after; is = y .answers })
 
 -- ---- a call on one file, with at most so much work
 
