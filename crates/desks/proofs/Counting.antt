@@ -10,7 +10,7 @@ use lib.Seq.{set-out}
 use Rattle.render.proofs.Ordered.{was-false, was-true}
 use Rattle.solve_workspace.specs.declared.Bounds.{Bounds}
 use Rattle.desks.specs.declared.Desks.{Desks}
-use Rattle.desks.specs.Desks.{remaining, charged, gate-number}
+use Rattle.desks.specs.Desks.{last-desk, remaining, charged, gate-number}
 use Rattle.desks.specs.Lent.{within}
 
 -- past the end of a list
@@ -53,7 +53,7 @@ pub unordered : (a : Bool) (d : ℕ) → not a ≡ true → 1 ≡ gate-number a 
 unordered a d e = rw (was-false a e) refl
 
 pub no-desk : (a : Bool) (d : ℕ) → not a ≡ false → 7 < d → 28 ≡ gate-number a d
-no-desk a d e f = rw (was-true a e, lt-ltb 7 d f) refl
+no-desk a d e f = rw (was-true a e, lt-ltb last-desk d (omega (arith, f))) refl
 
 pub a-desk : (a : Bool) (d : ℕ) → not a ≡ false → d ≤ 7 → 0 ≡ gate-number a d
-a-desk a d e f = rw (was-true a e, le-ltb 7 d f) refl
+a-desk a d e f = rw (was-true a e, le-ltb last-desk d (omega (arith, f))) refl
