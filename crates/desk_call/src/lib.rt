@@ -6,8 +6,8 @@ ghost use Rattle.render.specs.Call.{lengths, lengths-with};
 ghost use Rattle.desks.specs.Desks.{charged};
 ghost use Rattle.desks.specs.Lent.{work-in};
 ghost use Rattle.desks.specs.Calls.{DeskRendering, DeskDrafting};
+use desks::DeskAnswer;
 use desks::Desks;
-use desks::Served;
 use desks::allowed;
 use desks::charge;
 use desks::desk_gate;
@@ -55,7 +55,7 @@ pub fn render_for(
     depth: &mut [usize],
     output: &mut [u8],
     spans: &mut [[u64; 4]],
-) -> Served
+) -> DeskAnswer
     ensures { λ r. ⌜ DeskRendering desk desks (now (file .entry)) options b (lengths (now (nodes .entry)) (now (edges .entry)) (now (choices .entry)) (now (texts .entry)) (now (bytes .entry)) (now (tasks .entry)) (now (results .entry)) (now (pending .entry)) (now (index .entry)) (now (entries .entry)) (now (kept .entry)) (now (frontier .entry)) (now (plans .entry)) (now (visit .entry)) (now (depth .entry)) (now (output .entry)) (now (spans .entry))) (now (output .entry)) (now (output .exit)) (now (spans .entry)) (now (spans .exit)) (r .answer) × (r .desks ≡ charged desks desk (work-in (r .answer))) ⌝ }
 {
     let l = Lengths {

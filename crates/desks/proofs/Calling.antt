@@ -2,11 +2,10 @@
 use mathlib.Core.Path.{_≡_, refl, sym, subst}
 use mathlib.Core.Bool.{Bool, true, false}
 use mathlib.Core.List.{List}
-use Prim.Native.Nat.{ℕ, _≤_, _<_}
+use Prim.Native.Nat.{ℕ, _≤_}
 use native.Mathlib.Omega.{arith}
 use native.Mathlib.Decide.{decLt}
 use mathlib.Core.Logic.{by-cases}
-use borrow.Author.Tests.{lt-ltb, le-ltb}
 use Rattle.machine.specs.Numbers.{listed}
 use Rattle.machine.specs.Events.{no-counts}
 use Rattle.machine.specs.Events.{Bounds as Limits}
@@ -36,6 +35,7 @@ use Rattle.desks.specs.Served.{Served, served, no-desk, Kept, as-the-cal
 use Rattle.desks.specs.Served.{out-of-order as unordered, no-desk as kept-desk}
 use Rattle.desks.specs.Layer.{charged-nothing, serving}
 use Rattle.desks.specs.Kinds.{single, single-steady}
+use Rattle.desks.proofs.Counting.{gate-28, gate-0}
 use Rattle.desks.specs.Calls.{DeskRendering, DeskDrafting, DeskGate, opens, order, desk}
 
 -- ---- the gate
@@ -44,14 +44,8 @@ pub gated : {lent : Type 0} (a : Bool) (d : ℕ) → Told lent a → DeskGate le
 gated false d t = order (t .no refl)
 gated {lent} true d t =
     by-cases (decLt last-desk d)
-    (λ h. subst (λ (n : ℕ). DeskGate lent d n) (sym (gate-28 h)) (desk (t .yes refl) h))
-    (λ h. subst (λ (n : ℕ). DeskGate lent d n) (sym (gate-0 (omega (arith, h)))) (opens (t .yes refl) (omega (arith, h))))
-  where
-    gate-28 : last-desk < d → gate-number true d ≡ 28
-    gate-28 h = rw (lt-ltb last-desk d h) refl
-
-    gate-0 : d ≤ last-desk → gate-number true d ≡ 0
-    gate-0 h = rw (le-ltb last-desk d h) refl
+    (λ h. subst (λ (n : ℕ). DeskGate lent d n) (sym (gate-28 d h)) (desk (t .yes refl) h))
+    (λ h. subst (λ (n : ℕ). DeskGate lent d n) (sym (gate-0 d (omega (arith, h)))) (opens (t .yes refl) (omega (arith, h))))
 
 pub opened : {lent : Type 0} {d g : ℕ} → g ≡ 0 → DeskGate lent d g → lent × (d ≤ last-desk)
 opened e (opens l h) = (l, h)

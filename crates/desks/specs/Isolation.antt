@@ -7,7 +7,7 @@ use mathlib.Core.List.{List, [], _∷_}
 use Prim.Native.Nat.{ℕ, _+_}
 use native.Mathlib.Omega.{arith}
 use native.Mathlib.Decide.{decLt}
-use borrow.Author.Tests.{eqb-true, eqb-false, eq-eqb, ne-eqb}
+use borrow.Author.Tests.{eqb-true, eqb-false, ne-eqb}
 use lib.Dec.{eqb}
 use lib.ListN.{length, getD, set, length-set}
 use lib.Seq.{set-out, getD-set-same, getD-set-other, set-comm}
@@ -18,7 +18,7 @@ use Rattle.report.specs.Report.{Report, Step}
 use Rattle.desks.specs.declared.Desks.{Desks}
 use Rattle.desks.specs.Desks.{remaining, at-most, charged, work}
 use Rattle.desks.specs.Served.{Served, out-of-order, no-desk, served}
-use Rattle.desks.specs.Layer.{charged-nothing, After, after, served-one}
+use Rattle.desks.specs.Layer.{charged-nothing, record-after, After, served-one}
 use Rattle.desks.specs.Kinds.{single, single-steady, step, step-steady}
 
 -- ---- calls, one after the other
@@ -80,12 +80,6 @@ pub record Alike (d : ℕ) (mine : ℕ → Type 0) (W O : World) : Type 0 where
 -- ---- what a call leaves
 
 module _ {S : Type 0} {call : Bounds → Answer → S → Type 0} {X : S} {lent : Type 0} {b : Bounds} where
-  -- the record after it is the record before with its work charged
-  record-after : {D : Desks} {d : ℕ} {a : Answer} {Z : S} {D′ : Desks} → Served lent D d call b X a Z D′ → D′ ≡ charged D d (work a)
-  record-after {D} {d} (out-of-order n) = sym (charged-nothing D d)
-  record-after {D} {d} (no-desk l h) = sym (charged-nothing D d)
-  record-after (served l h c) = refl
-
   -- of the record a call reads what its desk may still do
   served-at : {D E : Desks} {d : ℕ} {a : Answer} {Z : S} {D′ : Desks} → remaining D d ≡ remaining E d → Served lent D d call b X a Z D′ → Served lent E d call b X a Z (charged E d (work a))
   served-at {E = E} {d = d} e (out-of-order n) = subst (λ (F : Desks). Served lent E d call b X (refused 1 0 no-counts) X F) (sym (charged-nothing E d)) (out-of-order n)
@@ -97,9 +91,6 @@ own-count l k d w n e =
     by-cases (decLt d (length l))
     (λ h. omega (arith, getD-set-same l d (getD l d 0 + w) 0 h, getD-set-same k d (getD k d 0 + w) 0 (omega (arith, h, n)), e))
     (λ h. ap (λ (z : List ℕ). getD z d 0) (set-out l d (getD l d 0 + w) (omega (arith, h))) ∙ e ∙ sym (ap (λ (z : List ℕ). getD z d 0) (set-out k d (getD k d 0 + w) (omega (arith, h, n)))))
-
-put-there : (f : ℕ → Report) (i : ℕ) (Z : Report) (j : ℕ) → i ≡ j → put f i Z j ≡ Z
-put-there f i Z j e = rw (eq-eqb i j e) refl
 
 put-elsewhere : (f : ℕ → Report) (i : ℕ) (Z : Report) (j : ℕ) → (i ≡ j → ⊥) → put f i Z j ≡ f j
 put-elsewhere f i Z j e = rw (ne-eqb i j e) refl

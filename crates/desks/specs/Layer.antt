@@ -4,14 +4,13 @@ use Prim.Native.Nat.{ℕ, _+_, _-_, _≤_, _<_, _^_}
 use native.Mathlib.Omega.{arith}
 use lib.ListN.{getD}
 use lib.Seq.{set-getD}
-use Rattle.machine.specs.Events.{Bounds, Counts, no-counts}
+use Rattle.machine.specs.Events.{Bounds, Counts}
 use Rattle.machine.specs.Materializer.{Rendered}
 use Rattle.machine.specs.Answer.{Answer, paged, refused}
 use Rattle.desks.specs.declared.Desks.{Desks}
 use Rattle.desks.specs.Desks.{last-desk, remaining, allowed, charged, work}
 use Rattle.desks.specs.Work.{at-most-size}
-use Rattle.desks.specs.Served.{Served, out-of-order, no-desk, served, ServedNumbered, of-the-call, desk, Kept, as-the-call, Left, Steady, Serving}
-use Rattle.desks.specs.Served.{no-desk as kept-desk}
+use Rattle.desks.specs.Served.{Served, out-of-order, no-desk, served, ServedNumbered, of-the-call, desk, Left, Steady, Serving}
 
 -- no work charged: the record as it was
 pub charged-nothing : (D : Desks) (d : ℕ) → charged D d 0 ≡ D
@@ -32,29 +31,18 @@ pub record After (S : Type 0) : Type 0 where
 abbrev pub after : {S : Type 0} → Answer → S → Desks → After S
 after a Z D = record { answer = a; state = Z; desks = D }
 
--- a page was served, by the call under the layer
-pub record Came {S : Type 0} (lent : Type 0) (D : Desks) (d : ℕ) (call : Bounds → Answer → S → Type 0) (b : Bounds) (p : Rendered) (k : Counts) (Z : S) (D′ : Desks) : Type 0 where
-  pub lent-enough : lent
-  pub desk-there : d ≤ last-desk
-  pub by : call (allowed D d b) (paged p k) Z
-  pub record-is : D′ ≡ charged D d (k .work-items)
-
 module _ {S : Type 0} {call : Bounds → Answer → S → Type 0} {X : S} where
-  -- with what 1 asks, whatever that is
-  pub for-unit : {lent : Type 0} {D : Desks} {d : ℕ} {b : Bounds} {a : Answer} {Z : S} {D′ : Desks} → lent → Served lent D d call b X a Z D′ → Served (Unit {0}) D d call b X a Z D′
-  for-unit l (out-of-order n) = absurd (n l)
-  for-unit l (no-desk m h) = no-desk tt h
-  for-unit l (served m h c) = served tt h c
-
-  pub came : {lent : Type 0} {D : Desks} {d : ℕ} {b : Bounds} {a : Answer} {p : Rendered} {k : Counts} {Z : S} {D′ : Desks} → Served lent D d call b X a Z D′ → a ≡ paged p k → Came lent D d call b p k Z D′
+  -- a page is that of the call under the layer
+  pub came : {lent : Type 0} {D : Desks} {d : ℕ} {b : Bounds} {a : Answer} {p : Rendered} {k : Counts} {Z : S} {D′ : Desks} → Served lent D d call b X a Z D′ → a ≡ paged p k → call (allowed D d b) (paged p k) Z
   came (out-of-order n) e = let z : _≡_ {A = ℕ} 0 1 = cc in absurd (omega arith)
   came (no-desk m h) e = let z : _≡_ {A = ℕ} 0 1 = cc in absurd (omega arith)
-  came {D = D} {d = d} {b = b} {Z = Z} (served m h c) e = record {
-    lent-enough = m;
-    desk-there = h;
-    by = subst (λ (a : Answer). call (allowed D d b) a Z) e c;
-    record-is = ap (λ (a : Answer). charged D d (work a)) e;
-  }
+  came {D = D} {d = d} {b = b} {Z = Z} (served m h c) e = subst (λ (a : Answer). call (allowed D d b) a Z) e c
+
+  -- the record after a call is the record before with its work charged
+  pub record-after : {lent : Type 0} {D : Desks} {d : ℕ} {b : Bounds} {a : Answer} {Z : S} {D′ : Desks} → Served lent D d call b X a Z D′ → D′ ≡ charged D d (work a)
+  record-after {D = D} {d = d} (out-of-order n) = sym (charged-nothing D d)
+  record-after {D = D} {d = d} (no-desk l h) = sym (charged-nothing D d)
+  record-after (served l h c) = refl
 
   -- a desk 0 to 7 with what 1 asks is served
   served-by : {E : Desks} {e : ℕ} {m : Bounds} {z : Answer} {Y : S} {E′ : Desks} → e ≤ last-desk → Served (Unit {0}) E e call m X z Y E′ → call (allowed E e m) z Y
@@ -88,19 +76,13 @@ module _ {S : Type 0} {call : Bounds → Answer → S → Type 0} {X : S} where
     pub serving : {lent : Type 0} {D : Desks} {d : ℕ} {b : Bounds} {a : Answer} {Z : S} {D′ : Desks} → Served lent D d call b X a Z D′ → Serving lent D d call b X a Z D′
     serving {D = D} {d = d} {b = b} s = record {
       answers = s;
-      same-page = λ p k e E f m h L z Y E′ q. G .one (served-by h q) (G .larger L (came s e .by));
-      needs-within = λ p k e x. omega (arith, G .within (came s e .by) x, at-most-size (remaining D d) b x);
-      just-suffices = λ p k e E f m h i z Y E′ q. G .one (subst (λ (l : Bounds). call l z Y) i (served-by h q)) (G .suffices (came s e .by));
-      none-less = λ p k e x E f m h i z Y E′ q. G .less x (came s e .by) i (served-by h q);
+      same-page = λ p k e E f m h L z Y E′ q. G .one (served-by h q) (G .larger L (came s e));
+      needs-within = λ p k e x. omega (arith, G .within (came s e) x, at-most-size (remaining D d) b x);
+      just-suffices = λ p k e E f m h i z Y E′ q. G .one (subst (λ (l : Bounds). call l z Y) i (served-by h q)) (G .suffices (came s e));
+      none-less = λ p k e x E f m h i z Y E′ q. G .less x (came s e) i (served-by h q);
     }
 
-  -- ---- what is promised of the call
-
-  pub kept-all : {P : Answer → Type 0} {lent : Type 0} {D : Desks} {d : ℕ} {b : Bounds} {a : Answer} {Z : S} {D′ : Desks} → P (refused 1 0 no-counts)
-      → ((m : Bounds) (z : Answer) (Y : S) → call m z Y → P z) → Served lent D d call b X a Z D′ → Kept P a
-  kept-all one all (out-of-order n) = as-the-call one
-  kept-all one all (no-desk l h) = kept-desk
-  kept-all one all (served l h c) = as-the-call (all _ _ _ c)
+  -- ---- its number
 
   pub numbered-all : {N : ℕ → Type 0} {lent : Type 0} {D : Desks} {d : ℕ} {b : Bounds} {n q : ℕ} {k : Counts} {Z : S} {D′ : Desks} → N 1
       → ((m : Bounds) (i j : ℕ) (c : Counts) (Y : S) → call m (refused i j c) Y → N i) → Served lent D d call b X (refused n q k) Z D′ → ServedNumbered N n

@@ -5,7 +5,7 @@ use Rattle.solve_workspace.specs.declared.Bounds.{Bounds}
 use Rattle.render.specs.declared.page.Rendered.{Rendered}
 use Rattle.render.specs.Rendered.{counts-of}
 use Rattle.desks.specs.declared.Desks.{Desks}
-use Rattle.desks.specs.declared.Served.{Served}
+use Rattle.desks.specs.declared.DeskAnswer.{DeskAnswer}
 use Rattle.desks.specs.declared.SharedRecord.{SharedRecord}
 use Rattle.desks.specs.Desks.{remaining, charged}
 
@@ -27,7 +27,7 @@ within D d b = record {
 abbrev pub work-in : Rendered → ℕ
 work-in a = counts-of a .«work_items»
 
-abbrev pub charging : Rendered → ℕ → Desks → Served
+abbrev pub charging : Rendered → ℕ → Desks → DeskAnswer
 charging a d D = record { answer = a; desks = charged D d (work-in a) }
 
 abbrev pub settled : SharedRecord → ℕ → SolveStats → SharedRecord

@@ -39,7 +39,7 @@ pub record ShortBy {S : Type 0} (x : Kind) (k : Counts) (m : Bounds) (X : S) (z 
   pub by : RefusedBy x (k .needs) m (z .answer)
   pub kept : z .state ≡ X
 
--- one answer; under sizes and limits none smaller the same page; its needs are sizes that were lent, just suffice, and none may be smaller (document 02, change 10); its work is within its limit; a refusal leaves the state
+-- one answer; under sizes and limits none smaller the same page; its needs are sizes that were lent, just suffice, and with one of them smaller it is that kind's refusal, which leaves the state (document 02, change 10); its work is within its limit
 pub record Steady {S : Type 0} (call : Bounds → Answer → S → Type 0) (X : S) : Type 0 where
   pub one : {b : Bounds} {a z : Answer} {Z Y : S} → call b a Z → call b z Y → left a Z ≡ left z Y
   pub larger : {b m : Bounds} {p : Rendered} {k : Counts} {Z : S} → Larger b m → call b (paged p k) Z → call m (paged p k) Z

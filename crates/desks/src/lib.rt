@@ -20,7 +20,7 @@ pub struct SharedRecord {
 }
 
 // An answer, and the desks after it.
-pub struct Served {
+pub struct DeskAnswer {
     pub answer: Rendered,
     pub desks: Desks,
 }
@@ -99,12 +99,12 @@ pub fn work_of(a: Rendered) -> u64
 }
 
 // An answer with its work charged.
-pub fn charge(a: Rendered, desk: u32, d: Desks) -> Served
+pub fn charge(a: Rendered, desk: u32, d: Desks) -> DeskAnswer
     requires { ⌜ work-in a ≤ remaining d desk ⌝ }
     ensures { λ r. ⌜ r ≡ charging a desk d ⌝ }
 {
     let after = charged(d, desk, work_of(a));
-    Served {
+    DeskAnswer {
         answer: a,
         desks: after,
     }

@@ -11,7 +11,7 @@ use Rattle.prepare.specs.declared.write.Outcome.{Outcome}
 use Rattle.prepare.specs.Writing.{Writes, lentTables, LentAt}
 use Rattle.render.specs.declared.order.Lengths.{Lengths}
 use Rattle.desks.specs.declared.Desks.{Desks}
-use Rattle.desks.specs.declared.Served.{Served}
+use Rattle.desks.specs.declared.DeskAnswer.{DeskAnswer}
 use Rattle.desks.specs.Desks.{charged}
 use Rattle.desks.specs.Lent.{work-in}
 use Rattle.desks.specs.Calls.{DeskRendering}
@@ -19,7 +19,7 @@ use Rattle.call_words.specs.Words.{words}
 use Rattle.call_words.specs.Accounts.{desks-at, desk-words}
 use Rattle.gannozhi.specs.Words.{Answered, write-size, write-number, Wrote}
 
-pub answered : (d : ℕ) (was file : List ℕ) (o : RenderOptions) {b b′ : Bounds} {D : Desks} (l : Lengths) (output₀ output : List ℕ) (rows₀ rows : List Row) (r : Served) {is answer : List ℕ} {number : ℕ} → b ≡ b′ → D ≡ desks-at was
+pub answered : (d : ℕ) (was file : List ℕ) (o : RenderOptions) {b b′ : Bounds} {D : Desks} (l : Lengths) (output₀ output : List ℕ) (rows₀ rows : List Row) (r : DeskAnswer) {is answer : List ℕ} {number : ℕ} → b ≡ b′ → D ≡ desks-at was
     → DeskRendering d D file o b l output₀ output rows₀ rows (r .answer) × (r .desks ≡ charged D d (work-in (r .answer))) → is ≡ desk-words (r .desks) → answer ≡ words (r .answer) → number ≡ getD (words (r .answer)) 0 0
     → Answered d was is file o b′ l output₀ output rows₀ rows answer number
 answered d was file o {b} {D = D} l output₀ output rows₀ rows r e f g i a n = record {

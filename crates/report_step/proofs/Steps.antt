@@ -61,12 +61,12 @@ module _ {s : Asked} {lent : Type 0} {d : ℕ} {D : Desks} where
       numbered = λ n needed k e. numbered-all (of-a-call (listed (omega arith) (omega arith))) (λ m i j c Y q. step-numbered z q)
           (subst (λ (a : Answer). Served lent D d (step (held h table₀ files₀ pages₀ marks₀) s) (limits b) (held h table₀ files₀ pages₀ marks₀) a (held (t .head) table files pages marks) D′) (ap (λ (x : Rendered). meant x output spans) e) w);
       right = λ g. by-answer g (meant (t .answer) output spans) refl;
-      whole-page = λ g p k e. step-right z g (came w e .by) .1;
+      whole-page = λ g p k e. step-right z g (came w e) .1;
       same-page = λ p k e Y g f c i E x m l L a Z E′ q. all .same-page p k e E x (limits m) l L a Z E′ (subst (λ (X : Report). Served (Unit {0}) E x (step X s) (limits m) X a Z E′) (same-report Y (held h table₀ files₀ pages₀ marks₀) c i f g) q);
     })
       where
         by-answer : RightReport (held h table₀ files₀ pages₀ marks₀) → (a : Answer) → meant (t .answer) output spans ≡ a → RightReport (held (t .head) table files pages marks)
-        by-answer g (paged p k) e = step-right z g (came w e .by) .0
+        by-answer g (paged p k) e = step-right z g (came w e) .0
         by-answer g (refused n m k) e = subst RightReport (sym (refused-leaves e w)) g
 
 -- ---- what a step comes to past the gate, under the sizes and limits c

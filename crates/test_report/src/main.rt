@@ -17,8 +17,8 @@
 // Any other line (case NAME) is handed on. Memory is lent at the sizes of `page`, but spans at 2,048; files and pages have 65,536 bytes, and there are 4,096 marks.
 // A call that asks for more is 1, and so is a step before a report is opened. Each report has the memory that the one before it left.
 use desk_call::render_for;
+use desks::DeskAnswer;
 use desks::Desks;
-use desks::Served;
 use report_gate::Head;
 use report_gate::Opened;
 use report_gate::open_report;
@@ -549,7 +549,7 @@ fn call_lent(
     s: State,
     output: &mut [u8; 32768],
     spans: &mut [[u64; 4]; 2048],
-) -> Served {
+) -> DeskAnswer {
     let b = s.bounds;
     let d = s.desks;
     let mut nodes = [[0u32; 8]; 4096];
@@ -593,7 +593,7 @@ fn call_lent(
     )
 }
 
-fn tell_call(s: State, r: Served, output: &[u8], spans: &[[u64; 4]]) -> State {
+fn tell_call(s: State, r: DeskAnswer, output: &[u8], spans: &[[u64; 4]]) -> State {
     let answer = r.answer;
     let d = r.desks;
     let told = with_desks(s, d);
