@@ -7,8 +7,8 @@ differential/differential/src/sample.rs) by part 4, and by part 2 where the layo
     fromrule.py HEX W N P R    one file with width, newline cost, policy, rule: page, spans, cost, counts, needs at the sizes of `page`
     fromrule.py --rule ../docs/RULE.md [--page-program PATH] [--calls-program PATH]
                                all that the page itself works out, its annex and check numbers (rulepage.py), then the steps of part 7
-                               (LivePage), then calls and steps for desks (DeskPage). What `page` can be asked of it is asked of the first program too, all calls with their sizes
-                               of the second (test_calls)
+                               (LivePage), calls and steps for desks (DeskPage), several files in one call (BatchPage). What `page` can be
+                               asked of it is asked of the first program too, all calls with their sizes of the second (test_calls)
 """
 import re
 import sys
@@ -650,6 +650,42 @@ class Desks:
         return given, after or report
 
 
+# ---- several files in one call
+
+DOCUMENTS = 64
+
+
+class Record(Desks):
+    """The desks, and the counts of the last call."""
+
+    def __init__(self, allowance, spent, counts):
+        super().__init__(allowance, spent)
+        self.counts = dict(counts)
+
+    def file_all(self, desk, files, setting, sizes, limits, lent=True):
+        """1, then 28, then 29; then each file by a call with the output and spans that are free. The batch's own number, 0 where the files are
+        tried; each file's answer; the pages and the spans, one behind the other. `lent`: what is lent is no reason for 1."""
+        answers, output, spans = [], b'', []
+        try:
+            test_setting(*setting)
+            refuse_if(not lent, 1)
+            refuse_if(desk > 7, 28)
+            refuse_if(len(files) > DOCUMENTS, 29)
+        except Refused as r:
+            self.counts = dict.fromkeys(COUNTS, 0) if files else self.counts
+            return r.number, answers, output, spans
+        for data in files:
+            said, self.counts, needs = self.call(desk, data, setting, less(sizes, output, spans), limits)
+            answers.append((said, self.counts, needs))
+            if len(said) == 3:
+                output, spans = output + said[0], spans + said[1]
+        return 0, answers, output, spans
+
+
+def less(sizes, output, spans):
+    return sizes[:7] + [sizes[7] - len(output), sizes[8] - len(spans)]
+
+
 class OneDocument(File):
     """The tables of a Seq of the rows with a HardLine between neighbours, as if it were a file. What a row's numbers name stands further
     back by what the rows before it have; its annotations stay."""
@@ -813,9 +849,12 @@ class LivePage:
             for row in rows if names[:len(head)] == list(head) else []:
                 yield '%s: %s' % (section, row), dict(zip(names, row))
 
-    def whole(self):
+    def name_rows(self):
         for _, cell in self.cells('row', 'file'):
             self.letters[cell['row']] = self.page.made_of(cell['file'])
+
+    def whole(self):
+        self.name_rows()
         for _, cell in self.cells('no.', 'one document', 'but'):
             setting, _, _ = self.given(cell['but'])
             self.without[tuple(self.files(cell['one document'])), tuple(setting)] = self.tool.number(cell['no.'])
@@ -841,6 +880,7 @@ class DeskPage(LivePage):
     are as the rows above left them, and where `rows` is empty, the report is as the last step left it. For a desk above 7 all these are empty."""
 
     HEAD = ['desk', 'allowance', 'spent', 'rows', 'call', 'but', 'no.', 'needed', 'work', 'spent after']
+
     def number(self, cell):
         from_the_end = re.fullmatch(r'2\^64 − ([\d,]+)', cell)
         return 2 ** 64 - self.tool.number(from_the_end[1]) if from_the_end else self.tool.number(cell)
@@ -849,12 +889,23 @@ class DeskPage(LivePage):
         """Words that a call for another desk may neither read nor alter."""
         self.desks = Desks([5, 0, 2 ** 64 - 1, 7] * 2, [0, 9, 2 ** 64 - 1, 2 ** 64 - 2] * 2)
 
-    def called(self, where, cell):
-        """The answer of a row, held to what the row says."""
+    def account(self, cell):
+        """The desk of a row, and the words of the desks before the call."""
         desk = self.number(cell['desk'])
         if cell['allowance']:
             self.desks.allowance[desk], self.desks.spent[desk] = self.number(cell['allowance']), self.number(cell['spent'])
-        words = self.desks.allowance + self.desks.spent
+        return desk, self.desks.allowance + self.desks.spent
+
+    def charged(self, where, cell, desk, words, work):
+        """The words of the desks after a call of so much work."""
+        if desk < 8:
+            words[8 + desk] += work
+            self.agree('spent counts', where, self.number(cell['spent after']), self.desks.spent[desk])
+        self.agree('desks', where, words, self.desks.allowance + self.desks.spent)
+
+    def called(self, where, cell):
+        """The answer of a row, held to what the row says."""
+        desk, words = self.account(cell)
         setting, sizes, limits = self.given(cell['but'])
         if cell['call'].startswith('page of '):
             said, counts, _ = self.desks.call(desk, self.file(cell['call'][8:]), setting, sizes, limits)
@@ -863,10 +914,7 @@ class DeskPage(LivePage):
                 self.report = self.read({'rows': cell['rows'], 'step': cell['call'], 'but': cell['but']})[0]
             step = self.read({'rows': 'none', 'step': cell['call'], 'but': cell['but']})[1]
             (said, counts, _), self.report = self.desks.step(desk, self.report, step, sizes, limits)
-        if desk < 8:
-            words[8 + desk] += counts['work']
-            self.agree('spent counts', where, self.number(cell['spent after']), self.desks.spent[desk])
-        self.agree('desks', where, words, self.desks.allowance + self.desks.spent)
+        self.charged(where, cell, desk, words, counts['work'])
         told = [0 if cell['no.'] == 'page' else self.number(cell['no.']), self.number(cell['needed']), self.number(cell['work'])]
         worked = list(said) if len(said) == 2 else [0, 0]
         self.agree('calls', where, told, worked + [counts['work']])
@@ -894,13 +942,91 @@ class DeskPage(LivePage):
             self.agree('desks alone', str(desk), run([turn for turn in turns if turn[0] == desk], words), [one for one in together if one[0] == desk])
 
     def whole(self):
-        for _, cell in self.cells('row', 'file'):
-            self.letters[cell['row']] = self.page.made_of(cell['file'])
+        self.name_rows()
         self.begin()
         for where, cell in self.cells(*self.HEAD[:6]):
             self.called(where, cell)
         self.alone()
         return self.told('desks')
+
+
+class BatchPage(DeskPage):
+    """Several files in one call.
+
+    A table that begins with `desk`, `allowance`, `spent`, `files`, `but`, `batch` has a batch in each row; desk, allowance and spent are as in
+    tables of desks. `files` has the files in order, as rows of a report in part 7; `nothing` is a file without bytes, `none` no file. In `but` may
+    stand besides `answers 63` (room for so many answers; usually for each file, or for 64 where there are more), `bytes 69` (so many bytes for
+    all files, whose lengths stay) and `memory for output 100`. Then comes the batch's own number, 0 where the files are tried, and of each file,
+    with commas between them (`64 times page`: so many), `no.` (`page` where there is one), `needed` and `work`; `output` and `spans` of all pages;
+    in `work kept` the work of the counts that are then in the record, or `as before` where these are unaltered; and `spent after`."""
+
+    HEAD = ['desk', 'allowance', 'spent', 'files', 'but', 'batch', 'no.', 'needed', 'work', 'output', 'spans', 'work kept', 'spent after']
+
+    COUNTED = {name: 90 + at for at, name in enumerate(COUNTS)}  # such as no file here has, so that what alters them shows
+
+    def begin(self):
+        super().begin()
+        self.desks = Record(self.desks.allowance, self.desks.spent, self.COUNTED)
+
+    def listed(self, cell):
+        """Numbers with commas between them; a page is 0."""
+        out = []
+        for part in filter(None, cell.split(', ')):
+            many, one = re.fullmatch(r'(?:([\d,]+) times )?(.+)', part).groups()
+            out += [0 if one == 'page' else self.number(one)] * (self.number(many) if many else 1)
+        return out
+
+    def asked(self, cell):
+        """The files; setting, sizes and limits; whether what is lent suffices."""
+        files, own, usual = self.files(cell['files']), {}, []
+        for part in filter(None, cell['but'].split(', ')):
+            named = re.fullmatch(r'(answers|bytes|memory for output) ([\d,]+)', part)
+            if named:
+                own[named[1]] = self.number(named[2])
+            else:
+                usual.append(part)
+        setting, sizes, limits = self.given(', '.join(usual))
+        needed = {'answers': min(len(files), DOCUMENTS), 'bytes': sum(len(data) for data in files), 'memory for output': sizes[7]}
+        return files, setting, sizes, limits, all(own.get(name, least) >= least for name, least in needed.items())
+
+    def batch(self, where, cell):
+        desk, words = self.account(cell)
+        files, setting, sizes, limits, lent = self.asked(cell)
+        self.desks.counts = dict(self.COUNTED)
+        before = Record(self.desks.allowance, self.desks.spent, self.desks.counts)
+        number, answers, output, spans = self.desks.file_all(desk, files, setting, sizes, limits, lent)
+        worked = [list(said) if len(said) == 2 else [0, 0] for said, _, _ in answers]
+        work = [counts['work'] for _, counts, _ in answers]
+        told = [self.number(cell['batch'])] + [self.listed(cell[name]) for name in ('no.', 'needed', 'work')]
+        self.agree('batches', where, told, [number, [n for n, _ in worked], [needed for _, needed in worked], work])
+        page = b'' if cell['output'] == 'no bytes' else self.page.made_of(cell['output'])
+        self.agree('outputs', where, (page, self.tool.spans_in(cell['spans'])), (output, spans))
+        if cell['work kept'] == 'as before':
+            self.agree('counts as before', where, self.COUNTED, self.desks.counts)
+        else:
+            last = answers[-1][1] if answers else dict.fromkeys(COUNTS, 0)
+            self.agree('counts kept', where, dict(last, work=self.number(cell['work kept'])), self.desks.counts)
+        self.charged(where, cell, desk, words, sum(work))
+        if number == 0:
+            self.in_two(where, before, (desk, files, setting, sizes, limits), (answers, output, spans))
+
+    def in_two(self, where, before, asked, whole):
+        """The first files in one call and the others in a second, on what is left: the same, wherever the cut is."""
+        desk, files, setting, sizes, limits = asked
+        for cut in range(0, len(files) + 1, 1 + len(files) // 8):
+            record = Record(before.allowance, before.spent, before.counts)
+            _, answers, output, spans = record.file_all(desk, files[:cut], setting, sizes, limits)
+            _, *others = record.file_all(desk, files[cut:], setting, less(sizes, output, spans), limits)
+            both = answers + others[0], output + others[1], spans + others[2]
+            kept = record.allowance + record.spent, record.counts
+            self.agree('batches in two', '%s at %d' % (where, cut), (whole, self.desks.allowance + self.desks.spent, self.desks.counts), (both, *kept))
+
+    def whole(self):
+        self.name_rows()
+        self.begin()
+        for where, cell in self.cells(*self.HEAD[:6]):
+            self.batch(where, cell)
+        return self.told('several files in one call')
 
 
 def main(arguments):
@@ -909,7 +1035,7 @@ def main(arguments):
         import rulepage
         named = dict(zip(arguments[2::2], arguments[3::2]))
         different = rulepage.main(arguments[1], named.get('--page-program'), named.get('--calls-program'))
-        for part in LivePage, DeskPage:
+        for part in LivePage, DeskPage, BatchPage:
             different |= part(arguments[1]).whole()
         sys.exit(different)
     if arguments[0] == '--page':

@@ -67,7 +67,7 @@ static inline const char *gannozhi_refusal(uint32_t number) {
         "visit", "depth", "output", "spans", "visits",                                       /* the materializer: 18 to 22 */
         "place", "rows",                                                                     /* a report's steps: 23 and 24 */
         "indent", "cost",                                                                    /* the solver again: 25 and 26 */
-        "", "desk"};                                                                         /* 27 is none; 28 */
+        "", "desk", "documents"};                                                            /* 27 is none; 28 and, of a batch, 29 */
     return number < sizeof words / sizeof *words ? words[number] : "";
 }
 
@@ -135,6 +135,49 @@ uint32_t gannozhi_render(
     uint8_t *output, size_t output_length,          /* output */
     gannozhi_span *spans, size_t spans_length,      /* spans */
     uint64_t answer[GANNOZHI_ANSWER]);
+
+/* Several files in one call, a batch: up to GANNOZHI_DOCUMENTS documents under one setting, with one list of sizes and one pair of limits, for
+ * one desk. `files` has their bytes one behind the other, `lengths` the number of bytes of each; there are as many documents as lengths.
+ *
+ * Each document in order gets what gannozhi_render gives on that part of output and spans, and of their sizes, that is still free; the other
+ * sizes and both limits are the batch's for each, and the allowance is what the desk then has left. The answer's words are its row of `answers`.
+ * Pages stand one behind the other with nothing between: a page begins where the lengths (GANNOZHI_LENGTH) of those before it together end, its
+ * spans likewise by GANNOZHI_SPAN_COUNT. Positions count from its own first byte, parents from its own first span. A document that is refused
+ * takes no output and no spans, and the next is tried.
+ *
+ * What is returned is the batch's own number: 0, or why no document is tried. 1: as gannozhi_render with the whole sizes, or `answers` has fewer
+ * rows than there are documents (than GANNOZHI_DOCUMENTS where there are more), or the lengths together pass `files`. Then 28, no such desk.
+ * Then 29, more than GANNOZHI_DOCUMENTS. Desks, output, spans and answers are then unaltered.
+ *
+ * The counts, in the order of an answer's words from GANNOZHI_WORK on, are left as the last document's, and as 0 where the batch is refused;
+ * they are not read. Where there is no document nothing is altered, the counts neither. Rows of `answers` past the documents, and output and
+ * spans past the last page, are unaltered. */
+#define GANNOZHI_DOCUMENTS 64
+
+uint32_t gannozhi_file_all(
+    uint32_t desk, gannozhi_desks *desks, uint64_t counts[GANNOZHI_NEEDS - GANNOZHI_WORK],
+    const uint8_t *files, size_t files_length,
+    const uint32_t *lengths, size_t lengths_length,
+    uint32_t width, uint32_t newline_cost, uint32_t policy, uint32_t rule,
+    const uint32_t sizes[GANNOZHI_SIZES], uint64_t work_limit, uint64_t visit_limit,
+    uint32_t (*nodes)[8], size_t nodes_length,      /* GANNOZHI_NODES */
+    uint32_t *edges, size_t edges_length,           /* GANNOZHI_EDGES */
+    uint32_t *choices, size_t choices_length,       /* GANNOZHI_CHOICES */
+    uint32_t (*texts)[3], size_t texts_length,      /* GANNOZHI_TEXTS */
+    uint8_t *bytes, size_t bytes_length,            /* GANNOZHI_BYTES */
+    uint32_t (*tasks)[9], size_t tasks_length,      /* stack */
+    uint32_t (*results)[2], size_t results_length,  /* stack */
+    uint64_t (*pending)[7], size_t pending_length,  /* stack */
+    uint64_t *index, size_t index_length,           /* gannozhi_memo_slots(memo) */
+    uint64_t (*entries)[6], size_t entries_length,  /* memo */
+    uint64_t (*kept)[6], size_t kept_length,        /* kept */
+    uint64_t *frontier, size_t frontier_length,     /* GANNOZHI_FRONTIER_WORDS * frontier */
+    uint32_t (*plans)[3], size_t plans_length,      /* plans */
+    size_t *visit, size_t visit_length,             /* visit */
+    size_t *depth, size_t depth_length,             /* depth */
+    uint8_t *output, size_t output_length,          /* output, of all pages */
+    gannozhi_span *spans, size_t spans_length,      /* spans, of all pages */
+    uint64_t (*answers)[GANNOZHI_ANSWER], size_t answers_length);
 
 /* The counts that a file has, with its root and space text; and how many bytes its texts have together, which only a reader tells. */
 enum {

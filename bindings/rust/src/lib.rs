@@ -7,14 +7,18 @@
 //! Whatever can solve is called for a desk, 0 to 7, and counts its work there. [`Desks`] says how much work each desk may do; a caller without
 //! desks calls for desk 0 with `&mut Desks::all(u64::MAX)`.
 //!
+//! [`Printer::file_all`] takes several files in one call; [`file_all_words`] does on the caller's own slices.
+//!
 //! [`Report`] is a live report: rows that come and go, each a prepared file, and their page after each step. It owns its memory and lets it
 //! grow. [`open_lent`], [`insert_lent`] and [`remove_lent`] take the caller's own slices; those of [`ReportMemory`] hold the report.
 
+mod batch;
 mod lent;
 mod raw;
 mod report;
 mod steps;
 
+pub use batch::{file_all_words, Filed};
 pub use lent::{
     read_lent, render_lent, render_words, told, write_lent, FileCounts, FileTables, Rendered, SolverMemory,
     TableCounts, TableMemory, Written,
@@ -109,6 +113,7 @@ impl Desks {
 
 /// What was counted up to the end of the call, or to where it was refused.
 #[derive(Clone, Copy, Debug, Default, Eq, PartialEq)]
+#[repr(C)]
 pub struct Counts {
     pub work: u64,
     pub fit_checks: u64,
@@ -187,7 +192,7 @@ pub fn span(row: [u64; 4]) -> Span {
 }
 
 /// Why there is no page: the number of the refusal, the size that is needed (13 to 21; else 0), and the counts. 23 and 24 are refusals of a
-/// live report's steps alone. 28, a desk above 7, comes right after 1.
+/// live report's steps alone. 28, a desk above 7, comes right after 1. 29 is a refusal of several files in one call alone: more than 64.
 #[derive(Clone, Copy, Debug, Eq, PartialEq)]
 pub struct Refusal {
     pub number: u32,
@@ -231,6 +236,7 @@ pub fn refusal(number: u32) -> &'static str {
         25 => "indent",
         26 => "cost",
         28 => "desk",
+        29 => "documents",
         _ => "",
     }
 }

@@ -1,7 +1,7 @@
 //! The library's functions as the linker sees them: a slice is a pointer that is not null, aligned for its items, and a length. The desks are
-//! sixteen words, which is how [`Desks`] lies in memory.
+//! sixteen words, which is how [`Desks`] lies in memory, and the counts ten, as [`Counts`] does.
 
-use crate::Desks;
+use crate::{Counts, Desks};
 
 extern "C" {
     pub fn gannozhi_render(
@@ -51,6 +51,59 @@ extern "C" {
         spans: *mut [u64; 4],
         spans_length: usize,
         answer: *mut [u64; 26],
+    ) -> u32;
+
+    pub fn gannozhi_file_all(
+        desk: u32,
+        desks: *mut Desks,
+        counts: *mut Counts,
+        files: *const u8,
+        files_length: usize,
+        lengths: *const u32,
+        lengths_length: usize,
+        width: u32,
+        newline_cost: u32,
+        policy: u32,
+        rule: u32,
+        sizes: *const [u32; 9],
+        work_limit: u64,
+        visit_limit: u64,
+        nodes: *mut [u32; 8],
+        nodes_length: usize,
+        edges: *mut u32,
+        edges_length: usize,
+        choices: *mut u32,
+        choices_length: usize,
+        texts: *mut [u32; 3],
+        texts_length: usize,
+        bytes: *mut u8,
+        bytes_length: usize,
+        tasks: *mut [u32; 9],
+        tasks_length: usize,
+        results: *mut [u32; 2],
+        results_length: usize,
+        pending: *mut [u64; 7],
+        pending_length: usize,
+        index: *mut u64,
+        index_length: usize,
+        entries: *mut [u64; 6],
+        entries_length: usize,
+        kept: *mut [u64; 6],
+        kept_length: usize,
+        frontier: *mut u64,
+        frontier_length: usize,
+        plans: *mut [u32; 3],
+        plans_length: usize,
+        visit: *mut usize,
+        visit_length: usize,
+        depth: *mut usize,
+        depth_length: usize,
+        output: *mut u8,
+        output_length: usize,
+        spans: *mut [u64; 4],
+        spans_length: usize,
+        answers: *mut [u64; 26],
+        answers_length: usize,
     ) -> u32;
 
     pub fn gannozhi_read(

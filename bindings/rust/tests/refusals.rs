@@ -2,9 +2,9 @@
 
 use gannozhi::*;
 
-/// Those of 1 to 22, as in document 01, of 23 and 24, a report's steps, of 25 and of 26; 27 has none; that of 28.
+/// Those of 1 to 22, as in document 01, of 23 and 24, a report's steps, of 25 and of 26; 27 has none; those of 28 and 29.
 const WORDS: &str = "order short form limit surplus reference text space circle list domain work \
-    stack memo kept frontier plans visit depth output spans visits place rows indent cost  desk";
+    stack memo kept frontier plans visit depth output spans visits place rows indent cost  desk documents";
 
 const FILE: &[u8] = include_bytes!("../../../samples/annotated.prepared");
 const SETTINGS: Settings = Settings { width: 24, newline_cost: 1, policy: 0, rule: 1 };
@@ -22,8 +22,8 @@ fn page(file: &[u8], settings: Settings, sizes: Sizes, limits: Limits) -> Result
 
 #[test]
 fn words() {
-    assert_eq!((1..=28).map(refusal).collect::<Vec<_>>().join(" "), WORDS);
-    for none in [0, 27, 29, u32::MAX] {
+    assert_eq!((1..=29).map(refusal).collect::<Vec<_>>().join(" "), WORDS);
+    for none in [0, 27, 30, u32::MAX] {
         assert_eq!(refusal(none), "");
     }
 }

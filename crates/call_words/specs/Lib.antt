@@ -1,3 +1,4 @@
 pub mod Words
 pub mod Heads
 pub mod Accounts
+pub mod Again

@@ -1,10 +1,11 @@
--- Which word is what in a call's answer, and in its sizes.
+-- Which word is what in a call's answer, in its settings and in its sizes.
 use mathlib.Core.List.{List, [], _∷_}
 use Prim.Native.Nat.{ℕ}
 use lib.ListN.{getD}
 use Rattle.stats.specs.declared.SolveStats.{SolveStats}
 use Rattle.solve_workspace.specs.declared.Bounds.{Bounds}
 use Rattle.solve_workspace.specs.declared.Needs.{Needs}
+use Rattle.solve_workspace.specs.declared.RenderOptions.{RenderOptions}
 use Rattle.render.specs.declared.page.Rendered.{Rendered}
 use Rattle.render.specs.declared.page.Rendered.the-variants.{Page, Refused}
 
@@ -26,6 +27,9 @@ no-words = 0 ∷ 0 ∷ 0 ∷ 0 ∷ 0 ∷ 0 ∷ 0 ∷ 0 ∷ 0 ∷ []
 abbrev pub words : Rendered → List ℕ
 words (Page c n m k q) = 0 ∷ 0 ∷ n ∷ m ∷ c .«overflow_high» ∷ c .«overflow_low» ∷ c .burden ∷ count-words k (need-words q)
 words (Refused n needed k) = n ∷ needed ∷ 0 ∷ 0 ∷ 0 ∷ 0 ∷ 0 ∷ count-words k no-words
+
+abbrev pub options : ℕ → ℕ → ℕ → ℕ → RenderOptions
+options width newline-cost policy rule = record { width = width; «newline_cost» = newline-cost; policy = policy; rule = rule }
 
 -- nine sizes in the order of 13 to 21, and the two limits
 abbrev pub bounds : List ℕ → ℕ → ℕ → Bounds

@@ -1,13 +1,14 @@
-// A call's answer in words, and sizes and limits from words: what the library hands over and is handed.
+// A call's answer in words, and settings, sizes and limits from words: what the library hands over and is handed.
 ghost use mathlib.Core.Path.{_≡_};
 ghost use lib.ListN.{getD};
-ghost use Rattle.call_words.specs.Words.{words, bounds};
+ghost use Rattle.call_words.specs.Words.{words, options, bounds};
 
 pub mod accounts;
 pub mod heads;
 
 use render::page::Rendered;
 use solve_workspace::Bounds;
+use solve_workspace::RenderOptions;
 
 pub fn answer_words(r: Rendered) -> [u64; 26]
     ensures { λ w. ⌜ w ≡ words r ⌝ }
@@ -98,6 +99,17 @@ pub fn answer_number(r: Rendered) -> u32
             needed: _,
             stats: _,
         } => number,
+    }
+}
+
+pub fn options_of(width: u32, newline_cost: u32, policy: u32, rule: u32) -> RenderOptions
+    ensures { λ r. ⌜ r ≡ options width «newline_cost» policy rule ⌝ }
+{
+    RenderOptions {
+        width: width,
+        newline_cost: newline_cost,
+        policy: policy,
+        rule: rule,
     }
 }
 

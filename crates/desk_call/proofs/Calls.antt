@@ -16,16 +16,14 @@ use Rattle.render.specs.declared.page.Drafted.the-variants.{Refused as Denied}
 use Rattle.render.specs.declared.order.Lengths.{Lengths}
 use Rattle.render.specs.Order.{InOrder}
 use Rattle.render.specs.Rendered.{Stands}
-use Rattle.render.specs.Call.{settings, Rendering, Drafting}
+use Rattle.render.specs.Call.{Rendering, Drafting}
 use Rattle.render.proofs.Pages.{unaltered}
 use Rattle.desks.specs.declared.Desks.{Desks}
 use Rattle.desks.specs.declared.DeskAnswer.{DeskAnswer}
 use Rattle.desks.specs.Desks.{remaining, charged, gate-number}
 use Rattle.desks.specs.Lent.{within, work-in, charging}
-use Rattle.desks.specs.Layer.{work-left}
-use Rattle.desks.specs.Kinds.{single-steady}
 use Rattle.desks.specs.Calls.{DeskRendering, DeskDrafting, DeskGate}
-use Rattle.desks.proofs.Calling.{gated, opened, work-meant, render-served, render-shut, plan-served}
+use Rattle.desks.proofs.Calling.{gated, opened, work-of-call, render-served, render-shut, plan-served}
 
 -- ---- no work
 
@@ -39,9 +37,6 @@ gate : (d : ℕ) {o : RenderOptions} {b : Bounds} {l : Lengths} {t : Bool} {g : 
 gate d {o} {b} {l} {t} told is = subst (λ (n : ℕ). DeskGate (InOrder o b l) d n) (sym is) (gated t d told)
 
 module _ (d : ℕ) (D : Desks) {file : List ℕ} {o : RenderOptions} {b : Bounds} {l : Lengths} where
-  work-of-call : {output₀ output : List ℕ} {rows₀ rows : List Row} {a : Rendered} → DeskRendering d D file o b l output₀ output rows₀ rows a → work-in a ≤ remaining D d
-  work-of-call {output = output} {rows = rows} {a = a} R = omega (arith, work-left (single-steady file (settings o)) (R .right .serving .answers), work-meant a output rows)
-
   module _ {t : Bool} {g : ℕ} (told : Told (InOrder o b l) t) (is : g ≡ gate-number t d) where
     -- ---- the whole call
 

@@ -29,11 +29,11 @@ use Rattle.render.specs.Rendered.{meant, Stands}
 use Rattle.render.specs.Drafts.{Drawn}
 use Rattle.render.specs.Call.{settings, Rendering, Drafting}
 use Rattle.desks.specs.declared.Desks.{Desks}
-use Rattle.desks.specs.Desks.{last-desk, charged, work, gate-number}
+use Rattle.desks.specs.Desks.{last-desk, remaining, charged, work, gate-number}
 use Rattle.desks.specs.Lent.{within, work-in}
 use Rattle.desks.specs.Served.{Served, served, no-desk, Kept, as-the-call}
 use Rattle.desks.specs.Served.{out-of-order as unordered, no-desk as kept-desk}
-use Rattle.desks.specs.Layer.{charged-nothing, serving}
+use Rattle.desks.specs.Layer.{charged-nothing, work-left, serving}
 use Rattle.desks.specs.Kinds.{single, single-steady}
 use Rattle.desks.proofs.Counting.{gate-28, gate-0}
 use Rattle.desks.specs.Calls.{DeskRendering, DeskDrafting, DeskGate, opens, order, desk}
@@ -90,6 +90,10 @@ answers-unit i (laid-out c m) = laid-out (lent-as tt c) m
 pub work-meant : (r : Rendered) (output : List ℕ) (rows : List Row) → work (meant r output rows) ≡ work-in r
 work-meant (Page c n m k q) output rows = refl
 work-meant (Refused n needed k) output rows = refl
+
+-- a call does no more than its desk may still do
+pub work-of-call : {d : ℕ} {D : Desks} {file : List ℕ} {o : RenderOptions} {b : Bounds} {l : Lengths} {output₀ output : List ℕ} {rows₀ rows : List Row} {a : Rendered} → DeskRendering d D file o b l output₀ output rows₀ rows a → work-in a ≤ remaining D d
+work-of-call {file = file} {o = o} {output = output} {rows = rows} {a = a} R = omega (arith, work-left (single-steady file (settings o)) (R .right .serving .answers), work-meant a output rows)
 
 refusal : {d : ℕ} {file : List ℕ} {o : RenderOptions} {b : Bounds} {l : Lengths} {g : ℕ} → DeskGate (InOrder o b l) d g → (g ≡ 0 → ⊥) → Kept (Promised file (settings o)) (refused g 0 no-counts)
 refusal (opens i h) ne = absurd (ne refl)

@@ -12,24 +12,24 @@ use Rattle.desks.specs.declared.Desks.{Desks}
 use Rattle.desks.specs.Served.{Served, no-desk, served}
 use Rattle.desks.specs.Kinds.{single}
 
-abbrev at-80 : Settings
+abbrev pub at-80 : Settings
 at-80 = record { width = 80; newline-cost = 0; policy = 0; rule = 1 }
 
-abbrev a-file : List ℕ
+abbrev pub a-file : List ℕ
 a-file = 69 ∷ 1 ∷ 0 ∷ 0 ∷ 0 ∷ 2 ∷ 0 ∷ 0 ∷ 0 ∷ 1 ∷ 0 ∷ 0 ∷ 0 ∷ 0 ∷ 1 ∷ 3 ∷ 1 ∷ 0 ∷ 0 ∷ 0 ∷ 1 ∷ 0 ∷ 0 ∷ 0 ∷ 97 ∷ 3 ∷ 1 ∷ 0 ∷ 0 ∷ 0 ∷ 1 ∷ 0 ∷ 0 ∷ 0 ∷ 32 ∷ []
 
-abbrev a-tables : Tables
+abbrev pub a-tables : Tables
 a-tables = tables ((1 ∷ 0 ∷ 0 ∷ 0 ∷ 0 ∷ 0 ∷ 0 ∷ 0 ∷ []) ∷ []) [] [] ((1 ∷ 1 ∷ 0 ∷ []) ∷ (1 ∷ 1 ∷ 1 ∷ []) ∷ []) (97 ∷ 32 ∷ []) 0 0 1
 
-abbrev a-page : Answer
+abbrev pub a-page : Answer
 a-page = paged (record { bytes = 97 ∷ []; spans = []; cost = record { overflow = 0; burden = 0 } }) (needing (counted 2 0 1 1 0 1 1 1 1) 1 1 1 1 1 1 0 1 0)
 
 -- 12, with work 1: the counts before the step that was not taken
-abbrev stopped : Answer
+abbrev pub stopped : Answer
 stopped = refused 12 0 (counted 1 0 1 0 0 0 0 0 0)
 
 -- desks 0 and 1 with an allowance and a spent count; the others have none
-abbrev two : ℕ → ℕ → ℕ → ℕ → Desks
+abbrev pub two : ℕ → ℕ → ℕ → ℕ → Desks
 two a s b t = record { allowance = a ∷ b ∷ 0 ∷ 0 ∷ 0 ∷ 0 ∷ 0 ∷ 0 ∷ []; spent = s ∷ t ∷ 0 ∷ 0 ∷ 0 ∷ 0 ∷ 0 ∷ 0 ∷ [] }
 
 abbrev Called : ℕ → Desks → ℕ → Answer → Desks → Type 0

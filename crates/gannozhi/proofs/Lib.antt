@@ -1,2 +1,3 @@
 mod Told
 mod Steps
+mod Shifted

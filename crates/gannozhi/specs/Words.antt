@@ -35,9 +35,6 @@ use Rattle.call_words.specs.Accounts.{desks-at, desk-words}
 
 -- ---- a call
 
-abbrev pub options : ℕ → ℕ → ℕ → ℕ → RenderOptions
-options width newline-cost policy rule = record { width = width; «newline_cost» = newline-cost; policy = policy; rule = rule }
-
 -- the words are those of the call's answer, the number is the first of them, and the desks' words are those before with its work charged
 pub record Answered (d : ℕ) (was is : List ℕ) (file : List ℕ) (o : RenderOptions) (b : Bounds) (l : Lengths) (output₀ output : List ℕ) (rows₀ rows : List Row) (answer : List ℕ) (number : ℕ) : Type 0 where
   pub told : Rendered

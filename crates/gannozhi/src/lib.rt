@@ -1,19 +1,21 @@
-// The library for C and Rust: a call, a file read and a file written, and live reports, with answers in words. None has a `requires`.
+// The library for C and Rust: a call, a file read and a file written, live reports, and a shift's files in one go, with answers in words. None has a `requires`.
 ghost use mathlib.Core.Path.{_≡_};
 ghost use lib.ListN.{length};
 ghost use Rattle.prepare.specs.File.{TablesLent};
 ghost use Rattle.prepare.specs.Writing.{lentTables, LentAt};
 ghost use Rattle.render.specs.Call.{lengths};
-ghost use Rattle.call_words.specs.Words.{bounds};
-ghost use Rattle.gannozhi.specs.Words.{options, Answered, read-number, read-words, Read, counts, write-number, write-size, Wrote};
+ghost use Rattle.call_words.specs.Words.{options, bounds};
+ghost use Rattle.gannozhi.specs.Words.{Answered, read-number, read-words, Read, counts, write-number, write-size, Wrote};
 
 pub mod live;
+pub mod shift;
 
 use call_words::accounts::desk_words;
 use call_words::accounts::desks_of;
 use call_words::answer_number;
 use call_words::answer_words;
 use call_words::bounds_of;
+use call_words::options_of;
 use desk_call::render_for;
 use file_tables::NodeId;
 use file_tables::TextId;
@@ -22,7 +24,6 @@ use prepare::read::read;
 use prepare::write::FileCounts;
 use prepare::write::Outcome;
 use prepare::write::write;
-use solve_workspace::RenderOptions;
 
 // A file's page for a desk, or why there is none. The words of the desks are eight allowances, then eight spent counts, kept between calls.
 #[no_mangle]
@@ -58,12 +59,7 @@ pub extern "C" fn gannozhi_render(
 ) -> u32
     ensures { λ r. ⌜ Answered desk (now (desks .entry)) (now (desks .exit)) (now (file .entry)) (options width «newline_cost» policy rule) (bounds (now (sizes .entry)) «work_limit» «visit_limit») (lengths (now (nodes .entry)) (now (edges .entry)) (now (choices .entry)) (now (texts .entry)) (now (bytes .entry)) (now (tasks .entry)) (now (results .entry)) (now (pending .entry)) (now (index .entry)) (now (entries .entry)) (now (kept .entry)) (now (frontier .entry)) (now (plans .entry)) (now (visit .entry)) (now (depth .entry)) (now (output .entry)) (now (spans .entry))) (now (output .entry)) (now (output .exit)) (now (spans .entry)) (now (spans .exit)) (now (answer .exit)) r ⌝ }
 {
-    let o = RenderOptions {
-        width: width,
-        newline_cost: newline_cost,
-        policy: policy,
-        rule: rule,
-    };
+    let o = options_of(width, newline_cost, policy, rule);
     let b = bounds_of(*sizes, work_limit, visit_limit);
     let d = desks_of(*desks);
     let r = render_for(

@@ -1,4 +1,5 @@
 // What programs that run stored calls have in common: sizes and limits from numbers, and an answer in lines as in differential/sample.
+use call_words::accounts::row_counts;
 use cost::ConsumerCost;
 use render::page::Rendered;
 use solve_workspace::Bounds;
@@ -167,4 +168,50 @@ pub fn print_answer(r: Rendered, output: &[u8], spans: &[[u64; 4]]) {
         }
     }
     io::write_all(1, b"\n");
+}
+
+// ---- an answer in words
+
+fn needs_in(w: [u64; 26]) -> Needs {
+    Needs {
+        stack: test_lines::small(w[17]),
+        memo: test_lines::small(w[18]),
+        kept: test_lines::small(w[19]),
+        frontier: test_lines::small(w[20]),
+        plans: test_lines::small(w[21]),
+        visit: test_lines::small(w[22]),
+        depth: test_lines::small(w[23]),
+        output: test_lines::small(w[24]),
+        spans: test_lines::small(w[25]),
+    }
+}
+
+fn answer_in(w: [u64; 26]) -> Rendered {
+    let k = row_counts(w);
+    if w[0] != 0 {
+        return Rendered::Refused {
+            number: test_lines::small(w[0]),
+            needed: w[1],
+            stats: k,
+        };
+    }
+    let q = needs_in(w);
+    let c = ConsumerCost {
+        overflow_high: w[4],
+        overflow_low: w[5],
+        burden: w[6],
+    };
+    Rendered::Page {
+        cost: c,
+        length: w[2] as usize,
+        spans: w[3] as usize,
+        stats: k,
+        needs: q,
+    }
+}
+
+// A row of a batch's answers, with output and spans from the document's own place on.
+pub fn print_row(w: [u64; 26], output: &[u8], spans: &[[u64; 4]]) {
+    let r = answer_in(w);
+    print_answer(r, output, spans);
 }

@@ -1,4 +1,4 @@
-// Calls on live reports and on single files from standard input, a line each: for each step how many rows the report has after it, and its answer as in `test_calls`. From the first
+// Calls on live reports, on single files and on batches from standard input, a line each: for each step how many rows the report has after it, and its answer as in `test_calls`. From the first
 // `desk`, `allow` or `spent` on, each answer has the desks before it, as they are after the call: eight allowances, eight spent counts.
 //
 //     open WIDTH NEWLINE_COST POLICY RULE
@@ -13,12 +13,22 @@
 //     empty                     row 0 is removed until none is left; the last one's answer is written
 //     word ROW WORD VALUE       a word of the table is altered, for memory that no step has written
 //     call WIDTH NEWLINE_COST POLICY RULE HEX     a call on one file
+//     file HEX                  a document of the next batch: up to 70 such lines stand right before its own; `-` where it is empty
+//     batch WIDTH NEWLINE_COST POLICY RULE ROWS     these documents in one go, with so many rows of answers, at most 64
 //
+// Of a batch are written its own number, the answer of each document tried, how many bytes and spans they take, the counts in the record (before the batch they are 1 to 10) and the desks.
 // Any other line (case NAME) is handed on. Memory is lent at the sizes of `page`, but spans at 2,048; files and pages have 65,536 bytes, and there are 4,096 marks.
 // A call that asks for more is 1, and so is a step before a report is opened. Each report has the memory that the one before it left.
+ghost use Prim.Native.Nat.{_≤_};
+ghost use lib.ListN.{length};
+use batch::FiledAll;
+use batch_call::file_all;
+use call_words::accounts::counts_of;
+use call_words::accounts::counts_words;
 use desk_call::render_for;
 use desks::DeskAnswer;
 use desks::Desks;
+use desks::SharedRecord;
 use report_gate::Head;
 use report_gate::Opened;
 use report_gate::open_report;
@@ -31,6 +41,7 @@ use test_answers::bounds_of;
 use test_answers::hand_on;
 use test_answers::print_answer;
 use test_answers::print_numbers;
+use test_answers::print_row;
 use test_lines::behind;
 use test_lines::file_at;
 use test_lines::number_at;
@@ -94,6 +105,16 @@ fn after(s: State, t: DeskStep) -> State {
 }
 
 // ---- lines without a call
+
+// A letter of the line, or 0 at the end.
+fn letter_at(input: &[u8], from: usize, i: usize) -> u8 {
+    if from < input.len() {
+        if i < input.len() - from {
+            return input[from + i];
+        }
+    }
+    0
+}
 
 fn print_rows(h: Head) {
     let rows = [h.rows as u64];
@@ -619,14 +640,215 @@ fn call_at(
     turned(tell_call(s, r, output, spans), read.next)
 }
 
+// ---- batches
+
+// The documents of a batch: how many, how many bytes they have together, and where the line behind them begins.
+struct Gathered {
+    documents: usize,
+    bytes: usize,
+    next: usize,
+}
+
+fn gather(input: &[u8], from: usize, files: &mut [u8], lengths: &mut [u32]) -> Gathered
+    ensures { λ r. ⌜ (r .documents ≤ length (now (lengths .entry))) × (r .bytes ≤ length (now (files .entry))) ⌝ }
+{
+    let mut at = from;
+    let mut bytes: usize = 0;
+    let mut k: usize = 0;
+    while k < lengths.len() {
+        if letter_at(input, at, 0) != b'f' {
+            return Gathered {
+                documents: k,
+                bytes: bytes,
+                next: at,
+            };
+        }
+        let read = file_at(input, at, &mut files[bytes..]);
+        let n = test_lines::count(read.line, &files[bytes..]);
+        lengths[k] = small(n as u64);
+        bytes += n;
+        at = read.next;
+        k += 1;
+    }
+    Gathered {
+        documents: k,
+        bytes: bytes,
+        next: at,
+    }
+}
+
+fn batch_lent(
+    files: &[u8],
+    lengths: &[u32],
+    options: RenderOptions,
+    s: State,
+    output: &mut [u8; 32768],
+    spans: &mut [[u64; 4]; 2048],
+    answers: &mut [[u64; 26]],
+) -> FiledAll {
+    let b = s.bounds;
+    let d = s.desks;
+    let k = counts_of([1, 2, 3, 4, 5, 6, 7, 8, 9, 10]);
+    let shared = SharedRecord { stats: k, desks: d };
+    let mut nodes = [[0u32; 8]; 4096];
+    let mut edges = [0u32; 16384];
+    let mut choices = [0u32; 16384];
+    let mut texts = [[0u32; 3]; 4096];
+    let mut bytes = [0u8; 65536];
+    let mut tasks = [[0u32; 9]; 512];
+    let mut results = [[0u32; 2]; 512];
+    let mut pending = [[0u64; 7]; 512];
+    let mut index = [0u64; 2048];
+    let mut entries = [[0u64; 6]; 1024];
+    let mut kept = [[0u64; 6]; 1024];
+    let mut frontier = [0u64; 3584];
+    let mut plans = [[0u32; 3]; 2048];
+    let mut visit = [0usize; 512];
+    let mut depth = [0usize; 64];
+    file_all(
+        s.desk,
+        shared,
+        files,
+        lengths,
+        options,
+        b,
+        &mut nodes,
+        &mut edges,
+        &mut choices,
+        &mut texts,
+        &mut bytes,
+        &mut tasks,
+        &mut results,
+        &mut pending,
+        &mut index,
+        &mut entries,
+        &mut kept,
+        &mut frontier,
+        &mut plans,
+        &mut visit,
+        &mut depth,
+        output,
+        spans,
+        answers,
+    )
+}
+
+// The place so many items further, in memory of a length.
+fn further(at: usize, count: u64, length: usize) -> usize
+    ensures { λ r. ⌜ r ≤ length ⌝ }
+{
+    let n = count as usize;
+    if length <= at {
+        return length;
+    }
+    if length - at < n {
+        return length;
+    }
+    at + n
+}
+
+fn print_tried(tried: usize, answers: &[[u64; 26]], output: &[u8], spans: &[[u64; 4]]) {
+    let mut at: usize = 0;
+    let mut mark: usize = 0;
+    let mut i: usize = 0;
+    while i < answers.len() {
+        if tried <= i {
+            return;
+        }
+        let row = answers[i];
+        print_row(row, &output[at..], &spans[mark..]);
+        at = further(at, row[2], output.len());
+        mark = further(mark, row[3], spans.len());
+        i += 1;
+    }
+}
+
+fn tell_batch(
+    s: State,
+    r: FiledAll,
+    answers: &[[u64; 26]],
+    output: &[u8],
+    spans: &[[u64; 4]],
+) -> State {
+    let number = [r.number as u64];
+    let used = [r.bytes as u64, r.spans as u64];
+    let shared = r.shared;
+    let k = shared.stats;
+    let d = shared.desks;
+    let counts = counts_words(k);
+    let told = with_desks(s, d);
+    print_numbers(b"batch", &number);
+    print_tried(r.tried, answers, output, spans);
+    print_numbers(b"used", &used);
+    print_numbers(b"record", &counts);
+    print_desks(told);
+    io::write_all(1, b"\n");
+    told
+}
+
+// A batch in rows of answers that it is lent, told.
+fn batch_told(
+    files: &[u8],
+    lengths: &[u32],
+    options: RenderOptions,
+    s: State,
+    output: &mut [u8; 32768],
+    spans: &mut [[u64; 4]; 2048],
+    answers: &mut [[u64; 26]],
+) -> State {
+    let r = batch_lent(files, lengths, options, s, output, spans, answers);
+    tell_batch(s, r, answers, output, spans)
+}
+
+// At most 64 rows of answers.
+fn rows_of(rows: u64) -> usize
+    ensures { λ r. ⌜ r ≤ 64 ⌝ }
+{
+    if rows <= 64 {
+        return rows as usize;
+    }
+    64
+}
+
+fn batch_at(
+    input: &[u8],
+    from: usize,
+    s: State,
+    output: &mut [u8; 32768],
+    spans: &mut [[u64; 4]; 2048],
+) -> Turn {
+    let mut files = [0u8; 65536];
+    let mut lengths = [0u32; 70];
+    let mut answers = [[0u64; 26]; 64];
+    let mut w = [0u64; 5];
+    let g = gather(input, from, &mut files, &mut lengths);
+    let next = numbers_at(input, g.next, &mut w);
+    let bytes = g.bytes;
+    let documents = g.documents;
+    let rows = rows_of(w[4]);
+    let told = batch_told(
+        &files[..bytes],
+        &lengths[..documents],
+        options_of([w[0], w[1], w[2]], w[3]),
+        s,
+        output,
+        spans,
+        &mut answers[..rows],
+    );
+    turned(told, next)
+}
+
 // ---- all lines
 
-// 1 `insert`, 2 `fill`, 3 `remove`, 4 `empty`, 5 `word`, 6 `call` (not `case`), by the first letter and the third; 0 any other line.
-fn sort(c: u8, e: u8) -> u8 {
+// 1 `insert`, 2 `fill`, 3 `remove`, 4 `empty`, 5 `word`, 6 `call` (not `case`), 7 `file` or `batch`, by the first letter, the third and the fourth; 0 any other line.
+fn sort(c: u8, e: u8, g: u8) -> u8 {
     if c == b'i' {
         return 1;
     }
     if c == b'f' {
+        if g == b'e' {
+            return 7;
+        }
         return 2;
     }
     if c == b'r' {
@@ -643,21 +865,8 @@ fn sort(c: u8, e: u8) -> u8 {
             return 6;
         }
     }
-    0
-}
-
-fn first_at(input: &[u8], from: usize) -> u8 {
-    if from < input.len() {
-        return input[from];
-    }
-    0
-}
-
-fn third_at(input: &[u8], from: usize) -> u8 {
-    if from < input.len() {
-        if 2 < input.len() - from {
-            return input[from + 2];
-        }
+    if c == b'b' {
+        return 7;
     }
     0
 }
@@ -673,9 +882,9 @@ fn line_at(
     output: &mut [u8; 32768],
     spans: &mut [[u64; 4]; 2048],
 ) -> Turn {
-    let c = first_at(input, from);
-    let e = third_at(input, from);
-    let k = sort(c, e);
+    let c = letter_at(input, from, 0);
+    let e = letter_at(input, from, 2);
+    let k = sort(c, e, letter_at(input, from, 3));
     if k == 0 {
         return setting_at(input, from, c, e, s);
     }
@@ -684,6 +893,9 @@ fn line_at(
     }
     if k == 6 {
         return call_at(input, from, s, output, spans);
+    }
+    if k == 7 {
+        return batch_at(input, from, s, output, spans);
     }
     if 2 < k {
         return removal_at(

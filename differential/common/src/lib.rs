@@ -152,6 +152,11 @@ impl Counts {
         "visits",
     ];
 
+    pub const fn of(list: [u64; 10]) -> Counts {
+        let [work, fit_checks, hits, misses, generated, pruned, peak_frontier, memo_entries, plan_nodes, visits] = list;
+        Counts { work, fit_checks, hits, misses, generated, pruned, peak_frontier, memo_entries, plan_nodes, visits }
+    }
+
     pub fn list(&self) -> [u64; 10] {
         [
             self.work,
@@ -203,6 +208,13 @@ impl Refusal {
 }
 
 pub type Answer = Result<Page, Refusal>;
+
+pub fn counts(answer: &Answer) -> Counts {
+    match answer {
+        Ok(page) => page.counts,
+        Err(refusal) => refusal.counts,
+    }
+}
 
 pub fn to_hex(bytes: &[u8]) -> String {
     bytes.iter().map(|byte| format!("{byte:02x}")).collect()

@@ -1,6 +1,7 @@
 //! One comparison: the model, the reference, brute force and our library on the same call.
 
-use common::{describe, to_hex, Answer, Counts, Limits, Page, Settings, Sizes, Tables};
+pub use common::counts;
+use common::{describe, to_hex, Answer, Limits, Page, Settings, Sizes, Tables};
 use model::file::WriteRefusal;
 use reference::access::Document;
 
@@ -110,13 +111,6 @@ pub fn in_order(settings: &Settings) -> bool {
 /// Whether the reference can show the answer that the model gives: it reads no files, has no limits and knows rule 1 alone.
 pub fn shown(settings: &Settings, modelled: &Answer) -> bool {
     settings.rule == 1 && !matches!(number(modelled), 1..=10 | 12 | 22)
-}
-
-pub fn counts(answer: &Answer) -> Counts {
-    match answer {
-        Ok(page) => page.counts,
-        Err(refusal) => refusal.counts,
-    }
 }
 
 /// What a page's needs have to do with the rest of it: plans only grow, no key is entered into the memo twice, and a frontier that is finished

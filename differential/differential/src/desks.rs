@@ -287,7 +287,7 @@ fn mine(given: &Given, desk: usize) -> (&[u64], &[u8], &[[u64; 4]], u64, u64) {
 }
 
 /// An allowance and a spent count.
-fn account(rng: &mut Rng) -> (u64, u64) {
+pub fn account(rng: &mut Rng) -> (u64, u64) {
     let few = rng.below(300);
     match rng.below(16) {
         0 => (0, 0),
@@ -302,7 +302,7 @@ fn account(rng: &mut Rng) -> (u64, u64) {
 }
 
 /// The account of a desk that is to do about so much work.
-fn about(rng: &mut Rng, work: u64, spent: u64) -> (u64, u64) {
+pub fn about(rng: &mut Rng, work: u64, spent: u64) -> (u64, u64) {
     let left = match rng.below(12) {
         0 | 1 => work,
         2 | 3 => work.saturating_sub(1),
@@ -320,7 +320,7 @@ fn about(rng: &mut Rng, work: u64, spent: u64) -> (u64, u64) {
 }
 
 /// The work limit of a call that takes so much, if it gets a page, with enough of all.
-fn work_limit(rng: &mut Rng, row: Option<&Answer>, drawn: u64) -> u64 {
+pub fn work_limit(rng: &mut Rng, row: Option<&Answer>, drawn: u64) -> u64 {
     let work = row.map_or(0, |answer| counts(answer).work);
     match rng.below(12) {
         0 => rng.below(4),
@@ -346,7 +346,7 @@ struct Place {
     owner: Option<u32>,
 }
 
-fn setting(rng: &mut Rng, style: Style) -> Settings {
+pub fn setting(rng: &mut Rng, style: Style) -> Settings {
     if style == Style::Narrow {
         return Settings { rule: rng.pick(&[1, 2]), ..generate::narrow(rng) };
     }

@@ -9,6 +9,8 @@
 //! together come past their width.
 //! `differential desks --seed S --calls N`: random sequences of calls and steps for desks (`--sequence I`, `--stand-in` as above). `desks
 //! impostors`: each impostor of the stand-in must be found.
+//! `differential batches --seed S --batches N`: random batches, several files in one call (`--sequence I`: the one batch of that number again;
+//! `--stand-in` as above). `batches impostors`: each impostor of the stand-in must be found.
 //! `differential report --rows N --seed S`: prints the file of a report of N rows, made by prepare.rs, in hexadecimal.
 //! `differential bench`: times of ours and of the reference on the same files; `--part P --rows N --width W --times T` does one part of the
 //! work T times and prints nothing, for a count of instructions (see bench.rs).
@@ -16,6 +18,8 @@
 //! 2^32 - 1 bytes and takes that much memory).
 //! `differential sample --seed S` and `differential sample-page --seed S`: print a frozen sample (see sample.rs).
 
+mod batches;
+mod batches_fixed;
 #[cfg(feature = "ours")]
 mod bench;
 mod compare;
@@ -74,6 +78,13 @@ fn run() -> i32 {
             return match arguments.get(1).map(String::as_str) {
                 Some("impostors") => desks::impostors(seed, calls.unwrap_or(20_000)),
                 _ => desks::run(seed, calls.unwrap_or(10_000), value("--sequence"), stand_in),
+            };
+        }
+        Some("batches") => {
+            let (stand_in, batches) = (arguments.iter().any(|word| word == "--stand-in"), value("--batches"));
+            return match arguments.get(1).map(String::as_str) {
+                Some("impostors") => batches::impostors(seed, batches.unwrap_or(20_000)),
+                _ => batches::run(seed, batches.unwrap_or(10_000), value("--sequence"), stand_in),
             };
         }
         Some("report") => {

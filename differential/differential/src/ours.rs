@@ -1,5 +1,5 @@
-//! Our library, behind two traits: calls on one file, and calls as they are, for desks and of live reports. It is linked here and nowhere else: by the wrapper `../bindings/rust`,
-//! unless the feature `ours` is off.
+//! Our library, behind two traits: calls on one file, and calls as they are, for desks, on several files and of live reports. It is linked here
+//! and nowhere else: by the wrapper `../bindings/rust`, unless the feature `ours` is off.
 
 use common::{Answer, Limits, Settings, Sizes, Tables};
 use model::file::WriteRefusal;
@@ -49,15 +49,15 @@ pub struct Lent<'a> {
     pub answer: &'a mut [u64; 26],
 }
 
-/// What a call on one file is lent, and an insertion for the call on its row: working memory, and where page and spans are put.
+/// What a call on one file or on several is lent, and an insertion for the call on its row: working memory, and where pages and spans are put.
 pub struct RowLent<'a> {
     pub working: &'a mut Working,
     pub output: &'a mut [u8],
     pub spans: &'a mut [[u64; 4]],
 }
 
-/// The calls for a desk, on one file and on live reports, as they are: each returns the answer's first word. The desks are sixteen words,
-/// allowances and then spent counts. An implementation looks after nothing; the caller does.
+/// The calls for a desk, on one file, on several and on live reports, as they are: each returns the answer's first word. The desks are sixteen
+/// words, allowances and then spent counts. An implementation looks after nothing; the caller does.
 pub trait Steps {
     fn open(&mut self, settings: &Settings, head: &mut [u32; 5]) -> u32;
 
@@ -72,6 +72,23 @@ pub trait Steps {
         limits: &Limits,
         lent: RowLent<'_>,
         answer: &mut [u64; 26],
+    ) -> u32;
+
+    /// The documents' bytes one behind the other, and the number of bytes of each; a row of words for each answer. The counts are the record's
+    /// ten. What is returned is the batch's own number.
+    #[allow(clippy::too_many_arguments)]
+    fn file_all(
+        &mut self,
+        desk: u32,
+        desks: &mut [u64; 16],
+        counts: &mut [u64; 10],
+        files: &[u8],
+        lengths: &[u32],
+        settings: &Settings,
+        sizes: &Sizes,
+        limits: &Limits,
+        lent: RowLent<'_>,
+        answers: &mut [[u64; 26]],
     ) -> u32;
 
     #[allow(clippy::too_many_arguments)]
@@ -256,6 +273,12 @@ pub mod library {
         unsafe { &mut *std::ptr::from_mut(words).cast() }
     }
 
+    /// Likewise the ten counts.
+    fn counted(words: &mut [u64; 10]) -> &mut gannozhi::Counts {
+        // SAFETY: `Counts` is ten such words, laid out as C does.
+        unsafe { &mut *std::ptr::from_mut(words).cast() }
+    }
+
     /// What the words say, of which each was dirty before the call: a refusal has neither page nor cost nor needs, and a need has 32 bits.
     pub fn told(number: u32, words: &[u64; 26]) -> Result<gannozhi::Rendered, gannozhi::Refusal> {
         let none = words[2..7].iter().chain(&words[17..]).all(|word| *word == 0);
@@ -329,6 +352,38 @@ pub mod library {
                 lent.output,
                 lent.spans,
                 answer,
+            )
+        }
+
+        fn file_all(
+            &mut self,
+            desk: u32,
+            desks: &mut [u64; 16],
+            counts: &mut [u64; 10],
+            files: &[u8],
+            lengths: &[u32],
+            settings: &Settings,
+            sizes: &Sizes,
+            limits: &Limits,
+            lent: RowLent<'_>,
+            answers: &mut [[u64; 26]],
+        ) -> u32 {
+            let (tables, solver) = lend(lent.working);
+            let (sizes, limits) = bounds(sizes, limits);
+            gannozhi::file_all_words(
+                desk,
+                desked(desks),
+                counted(counts),
+                files,
+                lengths,
+                &set(settings),
+                &sizes,
+                &limits,
+                tables,
+                solver,
+                lent.output,
+                lent.spans,
+                answers,
             )
         }
 

@@ -1,6 +1,8 @@
-//! A stand-in for the library's calls for desks and its live reports, on the same memory: rows' words, files, pages and spans moved as they stand
-//! there, work charged in the desks' words, and of a single call the model's answer. With it the harness runs where the library is not linked;
-//! and with its impostors, each of which makes one slip, the harness shows that it finds them.
+//! A stand-in for the library's calls for desks, on one file and on several, and its live reports, on the same memory: rows' words, files, pages
+//! and spans moved as they stand there, work charged in the desks' words, and of a single call the model's answer. With it the harness runs where
+//! the library is not linked; and with its impostors, each of which makes one slip, the harness shows that it finds them.
+
+mod batch;
 
 use common::{Counts, Limits, Refusal, Settings, Sizes, Span};
 
@@ -69,6 +71,40 @@ pub enum Slip {
     DeskBeforeOrder,
     DeskAfterPlace,
     DeskAfterFile,
+    RefusedTakesNeeded,
+    OldPlace,
+    OldSpans,
+    GapBetween,
+    PositionsOfBatch,
+    ParentsOfBatch,
+    NeededOfBatch,
+    NeedsOfBatch,
+    WholeOutput,
+    WholeSpans,
+    SliceForSize,
+    FirstRefusalEnds,
+    EmptySkipped,
+    RefusedReadAgain,
+    RowOneFurther,
+    RowsCleared,
+    RefusedBatchWrites,
+    RestCleared,
+    SpentOfLast,
+    AllowanceOfStart,
+    WorkTogether,
+    CountsOfFirst,
+    CountsOfPages,
+    CountsSummed,
+    NoneClearsCounts,
+    RefusedBatchKeepsCounts,
+    SixtyFourRefused,
+    SixtyFiveTaken,
+    SixtyFourRows,
+    RowsOfAll,
+    LengthsOfSixtyFour,
+    LengthsWrap,
+    TooManyBeforeDesk,
+    TooManyBeforeOrder,
 }
 
 impl Slip {
@@ -136,6 +172,44 @@ impl Slip {
         Slip::DeskAfterFile,
     ];
 
+    /// Each must be found by batches.
+    pub const OF_BATCHES: [Slip; 34] = [
+        Slip::RefusedTakesNeeded,
+        Slip::OldPlace,
+        Slip::OldSpans,
+        Slip::GapBetween,
+        Slip::PositionsOfBatch,
+        Slip::ParentsOfBatch,
+        Slip::NeededOfBatch,
+        Slip::NeedsOfBatch,
+        Slip::WholeOutput,
+        Slip::WholeSpans,
+        Slip::SliceForSize,
+        Slip::FirstRefusalEnds,
+        Slip::EmptySkipped,
+        Slip::RefusedReadAgain,
+        Slip::RowOneFurther,
+        Slip::RowsCleared,
+        Slip::RefusedBatchWrites,
+        Slip::RestCleared,
+        Slip::SpentOfLast,
+        Slip::AllowanceOfStart,
+        Slip::WorkTogether,
+        Slip::CountsOfFirst,
+        Slip::CountsOfPages,
+        Slip::CountsSummed,
+        Slip::NoneClearsCounts,
+        Slip::RefusedBatchKeepsCounts,
+        Slip::SixtyFourRefused,
+        Slip::SixtyFiveTaken,
+        Slip::SixtyFourRows,
+        Slip::RowsOfAll,
+        Slip::LengthsOfSixtyFour,
+        Slip::LengthsWrap,
+        Slip::TooManyBeforeDesk,
+        Slip::TooManyBeforeOrder,
+    ];
+
     /// Those by which what a desk gets depends on the others.
     pub const OF_OTHERS: [Slip; 5] =
         [Slip::ChargedToFirst, Slip::ChargedToNext, Slip::LeftOfAll, Slip::EighthServed, Slip::DeskInEightBits];
@@ -188,6 +262,14 @@ fn working_enough(working: &Working, sizes: &Sizes) -> bool {
         working.depth.held().len(),
     ];
     held.iter().zip(lengths(sizes)).all(|(held, need)| *held >= need)
+}
+
+/// Whether what is lent to a call, and its setting, are no reason for 1.
+fn call_enough(settings: &Settings, sizes: &Sizes, lent: &RowLent) -> bool {
+    in_order(settings)
+        && working_enough(lent.working, sizes)
+        && lent.output.len() >= sizes.output as usize
+        && lent.spans.len() >= sizes.spans as usize
 }
 
 impl Standin {
@@ -297,10 +379,7 @@ impl Standin {
         lent: RowLent,
         answer: &mut [u64; 26],
     ) -> u32 {
-        let enough = in_order(settings)
-            && working_enough(lent.working, sizes)
-            && lent.output.len() >= sizes.output as usize
-            && lent.spans.len() >= sizes.spans as usize;
+        let enough = call_enough(settings, sizes, &lent);
         let gates = [(1, !enough), (28, self.no_desk())];
         let order = if self.slips(Slip::DeskBeforeOrder) { [1, 0] } else { [0, 1] };
         let mut said = Ok(());
@@ -580,6 +659,22 @@ impl Steps for Standin {
         answer: &mut [u64; 26],
     ) -> u32 {
         self.serve(desk, desks, |own| own.single(file, settings, sizes, limits, lent, answer))
+    }
+
+    fn file_all(
+        &mut self,
+        desk: u32,
+        desks: &mut [u64; 16],
+        counts: &mut [u64; 10],
+        files: &[u8],
+        lengths: &[u32],
+        settings: &Settings,
+        sizes: &Sizes,
+        limits: &Limits,
+        lent: RowLent<'_>,
+        answers: &mut [[u64; 26]],
+    ) -> u32 {
+        self.batch(batch::Asked { desk, files, lengths, settings, sizes, limits }, desks, counts, lent, answers)
     }
 
     fn insert(

@@ -49,8 +49,8 @@ impl Desks {
         }
         let desk = desk as usize;
         let (answer, more) = call(&Limits { work: limits.work.min(self.left(desk)), ..*limits });
-        let counts = answer.as_ref().map_or_else(|refusal| refusal.counts, |page| page.counts);
-        self.spent[desk] = self.spent[desk].checked_add(counts.work).expect("the work is at most what was left");
+        let work = common::counts(&answer).work;
+        self.spent[desk] = self.spent[desk].checked_add(work).expect("the work is at most what was left");
         (answer, more)
     }
 

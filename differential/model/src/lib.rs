@@ -2,6 +2,7 @@
 //! materializer, with every refusal, needed size, count and need. It shares no code with the reference and none with our library.
 //! The solver is a recursion over nodes that carries the heights of the machine's stacks as numbers; a frontier is a plain list.
 
+pub mod batch;
 pub mod desks;
 pub mod file;
 mod materialize;

@@ -1,0 +1,12 @@
+pub mod Documents
+pub mod Cuts
+pub mod Batch
+pub mod Batched
+pub mod Values
+pub mod Within
+pub mod Sequence
+pub mod Exactly
+pub mod Shift
+pub mod Pages
+pub mod Isolation
+pub mod Cases
