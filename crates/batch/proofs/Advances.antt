@@ -1,22 +1,15 @@
 -- What a document takes, by its answer, and the counts in its row.
 use mathlib.Core.Path.{_≡_, refl, sym, ap, subst}
 use mathlib.Core.List.{List, []}
-use Prim.Native.Nat.{ℕ, zero, suc, _+_, _-_, _<_, _^_}
+use Prim.Native.Nat.{ℕ, zero, suc, _-_}
 use native.Mathlib.Omega.{arith}
 use lib.ListN.{getD}
 use Rattle.stats.specs.declared.SolveStats.{SolveStats}
 use Rattle.materialize.specs.Rows.{Row}
 use Rattle.render.specs.declared.page.Rendered.{Rendered}
-use Rattle.render.specs.Rendered.{page-length, span-count}
-use Rattle.desks.specs.Lent.{work-in}
 use Rattle.call_words.specs.Accounts.{counts-from}
 use Rattle.batch.specs.declared.Progress.{Progress}
-use Rattle.batch.specs.Documents.{most-documents}
-use Rattle.batch.specs.Values.{gone-on, last-counts}
-
--- what a document takes has its place
-abbrev pub Taken : Progress → Rendered → Type 0
-Taken p a = (p .filed < most-documents) × (p .bytes + page-length a < 2 ^ 32) × (p .spans + span-count a < 2 ^ 32) × (p .work + work-in a < 2 ^ 64)
+use Rattle.batch.specs.Values.{gone-on, Taken, last-counts}
 
 pub taken-by : (p : Progress) {a x : Rendered} → a ≡ x → Taken p a → Taken p x
 taken-by p e h = subst (λ (z : Rendered). Taken p z) e h

@@ -5,7 +5,7 @@ use Prim.Native.Nat.{ℕ, zero, suc, _+_, _≤_, _<_}
 use native.Mathlib.Omega.{arith}
 use lib.ListN.{length, getD, take, drop}
 use lib.Seq.{take-suc, drop-drop, take-length}
-use Rattle.batch.specs.Documents.{cut, total}
+use Rattle.batch.specs.Documents.{cut, total, document}
 
 pub total-suc : (l : List ℕ) (i : ℕ) → i < length l → total (take (i + 1) l) ≡ total (take i l) + getD l i 0
 total-suc [] i h = absurd (omega arith)
@@ -21,14 +21,12 @@ pub length-cut : (files lengths : List ℕ) → length (cut files lengths) ≡ l
 length-cut files [] = refl
 length-cut files (n ∷ l) = ap suc (length-cut (drop n files) l)
 
--- the document with a number starts behind the bytes of those before it
-pub document-at : (files lengths : List ℕ) (i : ℕ) → i < length lengths → getD (cut files lengths) i [] ≡ take (getD lengths i 0) (drop (total (take i lengths)) files)
+pub document-at : (files lengths : List ℕ) (i : ℕ) → i < length lengths → getD (cut files lengths) i [] ≡ document files lengths i
 document-at files [] i h = absurd (omega arith)
 document-at files (n ∷ l) zero h = refl
 document-at files (n ∷ l) (suc i) h = document-at (drop n files) l i (omega arith) ∙ ap (λ (r : List ℕ). take (getD l i 0) r) (drop-drop (total (take i l)) n files)
 
-pub documents-suc : (files lengths : List ℕ) (i : ℕ) → i < length lengths
-    → take (i + 1) (cut files lengths) ≡ take i (cut files lengths) ++ take (getD lengths i 0) (drop (total (take i lengths)) files) ∷ []
+pub documents-suc : (files lengths : List ℕ) (i : ℕ) → i < length lengths → take (i + 1) (cut files lengths) ≡ take i (cut files lengths) ++ document files lengths i ∷ []
 documents-suc files lengths i h =
     let e : i + 1 ≡ suc i = omega arith in
     ap (λ (n : ℕ). take n (cut files lengths)) e ∙ take-suc (cut files lengths) i [] (omega (arith, h, length-cut files lengths))

@@ -72,7 +72,7 @@ needs-same q r t =
     let i = ap (λ (n : Needed). n .spans) t in
     rw (a, b, c, d, e, f, g, h, i) refl
 
--- what stands for it in the machine's words, with all that is lent
+-- an answer that lies in what is lent, the low half of its overflow a word, without fit checks
 record Shown (a : Rendered) (out : List ℕ) (rows : List Row) : Type 0 where
   pub bytes-in : page-length a ≤ length out
   pub spans-in : span-count a ≤ length rows

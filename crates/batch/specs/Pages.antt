@@ -20,11 +20,10 @@ use Rattle.render.specs.Rendered.{meant, page-length, span-count, Front}
 use Rattle.render.specs.Call.{settings}
 use Rattle.layout.specs.SpanWords.{span-of}
 use Rattle.report.specs.Lists.{drop-take}
-use Rattle.desks.specs.declared.Desks.{Desks}
 use Rattle.desks.specs.Desks.{charged}
 use Rattle.desks.specs.Lent.{work-in}
-use Rattle.desks.specs.Served.{Served, out-of-order, no-desk, served, Kept}
-use Rattle.desks.specs.Kinds.{single}
+use Rattle.desks.specs.Served.{Kept}
+use Rattle.desks.specs.Layer.{lent-unit}
 use Rattle.call_words.specs.Words.{words}
 use Rattle.desks.specs.declared.SharedRecord.{SharedRecord}
 use Rattle.batch.specs.Documents.{cut}
@@ -105,45 +104,39 @@ left-is b x y (Refused n f k) out rows h g =
     let i : y + 0 ≡ y = omega arith in
     rw (e, i) refl
 
--- memory that 1 asks for is there
-lent-unit : {lent : Type 0} {D : Desks} {d : ℕ} {file : List ℕ} {o : RenderOptions} {b : Limits} {a : Answer} {E : Desks} → lent → Served lent D d (single file (settings o)) b tt a tt E → Served (Unit {0}) D d (single file (settings o)) b tt a tt E
-lent-unit l (out-of-order n) = absurd (n l)
-lent-unit l (no-desk m h) = no-desk tt h
-lent-unit l (served m h c) = served tt h c
-
 -- ---- a batch is a shift, and each answer of it stands in memory
 
-pub record Told (d : ℕ) (o : RenderOptions) (b : Bounds) (files : List (List ℕ)) (F G : Batch) : Type 0 where
+pub record Found (d : ℕ) (o : RenderOptions) (b : Bounds) (files : List (List ℕ)) (F G : Batch) : Type 0 where
   pub answers : List Answer
   pub shift : Shift d (settings o) (limits (rest b (F .bytes) (F .spans))) (F .shared .desks) files answers (limits (rest b (G .bytes) (G .spans))) (G .shared .desks)
   pub standing : Standing o G (F .filed) (F .bytes) (F .spans) files answers
 
 module _ {d : ℕ} {o : RenderOptions} {b : Bounds} {l : Lengths} (in-order : InOrder o b l) where
-  told-one : {file : List ℕ} {F G H : Batch} {files : List (List ℕ)} → Inside b F → F .filed < length (F .answers) → One d o b l file F G → Keeps G H → Told d o b files G H → Told d o b (file ∷ files) F H
-  told-one {file} {F} {G} {H} {files} i n h k t =
+  found-one : {file : List ℕ} {F G H : Batch} {files : List (List ℕ)} → Inside b F → F .filed < length (F .answers) → One d o b l file F G → Keeps G H → Found d o b files G H → Found d o b (file ∷ files) F H
+  found-one {file} {F} {G} {H} {files} i n h k t =
       let a = h .told in
       let kept = subst (λ (X : Batch). Keeps X H) (h .after) k in
-      let rest-told = subst (λ (X : Batch). Told d o b files X H) (h .after) t in
+      let others = subst (λ (X : Batch). Found d o b files X H) (h .after) t in
       let x = part-kept (F .bytes) (page-length a) (F .output) (h .output) (H .output) (omega (arith, i .bytes-in, i .output-lent)) (kept .output) in
       let y = part-kept (F .spans) (span-count a) (F .rows) (h .rows) (H .rows) (omega (arith, i .spans-in, i .rows-lent)) (kept .rows) in
       let same : meant a (h .output) (h .rows) ≡ meant a (drop (F .bytes) (H .output)) (drop (F .spans) (H .rows)) = meant-kept a (h .output) (drop (F .bytes) (H .output)) (h .rows) (drop (F .spans) (H .rows)) x y in
       let went = lent-unit (part-in-order (F .bytes) (F .spans) in-order) (h .call .right .serving .answers) in
       let left = left-is b (F .bytes) (F .spans) a (h .output) (h .rows) (omega (arith, h .call .stands .output-is .within, h .output-length)) (omega (arith, h .call .stands .rows-are .within, h .rows-length)) in
       record {
-        answers = meant a (drop (F .bytes) (H .output)) (drop (F .spans) (H .rows)) ∷ rest-told .answers;
+        answers = meant a (drop (F .bytes) (H .output)) (drop (F .spans) (H .rows)) ∷ others .answers;
         shift = subst
-            (λ (z : Answer). Shift d (settings o) (limits (rest b (F .bytes) (F .spans))) (F .shared .desks) (file ∷ files) (z ∷ rest-told .answers) (limits (rest b (H .bytes) (H .spans))) (H .shared .desks)) same
-            (first went (subst (λ (m : Limits). Shift d (settings o) m (charged (F .shared .desks) d (work-in a)) files (rest-told .answers) (limits (rest b (H .bytes) (H .spans))) (H .shared .desks)) left (rest-told .shift)));
+            (λ (z : Answer). Shift d (settings o) (limits (rest b (F .bytes) (F .spans))) (F .shared .desks) (file ∷ files) (z ∷ others .answers) (limits (rest b (H .bytes) (H .spans))) (H .shared .desks)) same
+            (first went (subst (λ (m : Limits). Shift d (settings o) m (charged (F .shared .desks) d (work-in a)) files (others .answers) (limits (rest b (H .bytes) (H .spans))) (H .shared .desks)) left (others .shift)));
         standing = behind a (kept .answers (F .filed) (omega arith) ∙ getD-set-same (F .answers) (F .filed) (words a) [] n)
-            (subst (λ (z : Answer). Kept (Promised file (settings o)) z) same (h .call .right .promised)) (rest-told .standing);
+            (subst (λ (z : Answer). Kept (Promised file (settings o)) z) same (h .call .right .promised)) (others .standing);
       }
 
-  pub told : {files : List (List ℕ)} {F G : Batch} → Inside b F → F .filed + length files ≤ length (F .answers) → Singles d o b l files F G → Told d o b files F G
-  told i n no-call = record { answers = []; shift = none; standing = nothing }
-  told {F = F} i n (first-call {files = files} {G = G} h s) =
+  pub found : {files : List (List ℕ)} {F G : Batch} → Inside b F → F .filed + length files ≤ length (F .answers) → Singles d o b l files F G → Found d o b files F G
+  found i n no-call = record { answers = []; shift = none; standing = nothing }
+  found {F = F} i n (first-call {files = files} {G = G} h s) =
       let e : length (G .answers) ≡ length (F .answers) = ap (λ (X : Batch). length (X .answers)) (h .after) ∙ length-set (F .answers) (F .filed) (words (h .told)) in
       let f : G .filed ≡ F .filed + 1 = ap (λ (X : Batch). X .filed) (h .after) in
-      told-one i (omega (arith, n)) h (calls-keep (one-inside i h) s) (told (one-inside i h) (omega (arith, n, e, f)) s)
+      found-one i (omega (arith, n)) h (calls-keep (one-inside i h) s) (found (one-inside i h) (omega (arith, n, e, f)) s)
 
 -- ---- what is past the last is unaltered
 
@@ -185,15 +178,15 @@ module _ {d : ℕ} {o : RenderOptions} {b : Bounds} {l : Lengths} where
 
 -- ---- a batch, once its own refusals are passed
 
-pub record Outcome (d : ℕ) (o : RenderOptions) (b : Bounds) (files : List (List ℕ)) (F G : Batch) : Type 0 where
-  pub pages : Told d o b files F G
+pub record Delivered (d : ℕ) (o : RenderOptions) (b : Bounds) (files : List (List ℕ)) (F G : Batch) : Type 0 where
+  pub pages : Found d o b files F G
   pub past : Past F G
 
 pub batch-pages : {d : ℕ} {o : RenderOptions} {b : Bounds} {l : Lengths} {files lengths : List ℕ} {s : SharedRecord} {output : List ℕ} {rows answers : List Row} {n : ℕ} {G : Batch} → l .output ≡ length output → l .spans ≡ length rows → n ≡ 0
-    → Batched d o b l files lengths (begun s output rows answers) n G → Outcome d o b (cut files lengths) (begun s output rows answers) G
+    → Batched d o b l files lengths (begun s output rows answers) n G → Delivered d o b (cut files lengths) (begun s output rows answers) G
 batch-pages e f z (unordered n) = absurd (omega (arith, z))
 batch-pages e f z (wrong-desk m h) = absurd (omega (arith, z))
 batch-pages e f z (too-many m h k) = absurd (omega (arith, z))
 batch-pages {b = b} {files = files} {lengths = lengths} {s = s} {output = output} {rows = rows} {answers = answers} e f z (filed m h k g) =
     let i : Inside b (begun s output rows answers) = record { bytes-in = omega arith; spans-in = omega arith; output-lent = omega (arith, m .in-order .page .output, e); rows-lent = omega (arith, m .in-order .page .spans, f) } in
-    record { pages = told (m .in-order) i (omega (arith, m .answers-lent, k, length-cut files lengths)) (in-sequence g); past = unaltered-past i (in-sequence g) }
+    record { pages = found (m .in-order) i (omega (arith, m .answers-lent, k, length-cut files lengths)) (in-sequence g); past = unaltered-past i (in-sequence g) }

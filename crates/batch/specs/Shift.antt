@@ -12,7 +12,7 @@ use Rattle.desks.specs.Layer.{After, served-one}
 use Rattle.desks.specs.Kinds.{single, single-steady}
 use Rattle.desks.specs.Limits.{file-served}
 
--- what a page leaves of output and spans; a refusal leaves all
+-- the same sizes and limits, with so much less output and so many fewer spans
 abbrev pub less : Bounds → ℕ → ℕ → Bounds
 less b bytes spans = record {
   stack = b .stack;
@@ -28,6 +28,7 @@ less b bytes spans = record {
   visit-limit = b .visit-limit;
 }
 
+-- what a page leaves; a refusal leaves all
 abbrev pub left-by : Answer → Bounds → Bounds
 left-by (paged p k) b = less b (length (p .bytes)) (length (p .spans))
 left-by (refused n needed k) b = b
@@ -40,12 +41,12 @@ pub data Shift (d : ℕ) (c : Settings) : Bounds → Desks → List (List ℕ) �
 
 -- ---- each shift has one list of answers
 
-pub record Outcome (answers rs : List Answer) (b m : Bounds) (D E : Desks) : Type 0 where
+pub record OneShift (answers rs : List Answer) (b m : Bounds) (D E : Desks) : Type 0 where
   pub answers-same : answers ≡ rs
   pub left-same : b ≡ m
   pub desks-same : D ≡ E
 
-pub shift-one : {d : ℕ} {c : Settings} {b m n : Bounds} {D E G : Desks} {files : List (List ℕ)} {answers rs : List Answer} → Shift d c b D files answers m E → Shift d c b D files rs n G → Outcome answers rs m n E G
+pub shift-one : {d : ℕ} {c : Settings} {b m n : Bounds} {D E G : Desks} {files : List (List ℕ)} {answers rs : List Answer} → Shift d c b D files answers m E → Shift d c b D files rs n G → OneShift answers rs m n E G
 shift-one none none = record { answers-same = refl; left-same = refl; desks-same = refl }
 shift-one {d} {c} {b} {n = n} {G = G} (first {file = file} {files = files} {a = a} {answers = answers} {E = E} h s) (first {a = z} {answers = rs} {E = O} g t) =
     let e = served-one (single-steady file c) h g in

@@ -1,6 +1,6 @@
 -- A batch's progress and answer, as the code has them.
 use mathlib.Core.List.{List, []}
-use Prim.Native.Nat.{ℕ, zero, suc, _+_}
+use Prim.Native.Nat.{ℕ, zero, suc, _+_, _<_, _^_}
 use lib.ListN.{getD}
 use Rattle.stats.specs.declared.SolveStats.{SolveStats}
 use Rattle.materialize.specs.Rows.{Row}
@@ -12,6 +12,7 @@ use Rattle.desks.specs.Lent.{work-in}
 use Rattle.call_words.specs.Accounts.{counts-from}
 use Rattle.batch.specs.declared.FiledAll.{FiledAll}
 use Rattle.batch.specs.declared.Progress.{Progress}
+use Rattle.batch.specs.Documents.{most-documents}
 use Rattle.batch.specs.Batch.{Batch}
 use Rattle.batch.specs.Batched.{turned-away}
 
@@ -27,6 +28,10 @@ advanced p to bytes spans work = record { at = to; filed = p .filed + 1; bytes =
 
 abbrev pub gone-on : Progress → ℕ → Rendered → Progress
 gone-on p to a = advanced p to (page-length a) (span-count a) (work-in a)
+
+-- what a document takes has its place
+abbrev pub Taken : Progress → Rendered → Type 0
+Taken p a = (p .filed < most-documents) × (p .bytes + page-length a < 2 ^ 32) × (p .spans + span-count a < 2 ^ 32) × (p .work + work-in a < 2 ^ 64)
 
 -- the counts of the last of so many documents stand in its row
 abbrev pub last-counts : SolveStats → ℕ → List Row → SolveStats

@@ -7,23 +7,20 @@ use lib.ListN.{length, take, drop, length-append, length-drop, length-map}
 use lib.Seq.{length-take-le}
 use Rattle.layout.specs.SpanWords.{span-of}
 use Rattle.machine.specs.Events.{output, spans as spans-kind}
-use Rattle.machine.specs.Events.{Bounds as Limits}
-use Rattle.machine.specs.Answer.{Answer}
 use Rattle.answer.specs.Demand.{needs-page}
 use Rattle.solve_workspace.specs.declared.Bounds.{Bounds}
 use Rattle.solve_workspace.specs.declared.RenderOptions.{RenderOptions}
+use Rattle.solve_workspace.specs.Meets.{limits}
 use Rattle.materialize.specs.Rows.{Row}
 use Rattle.render.specs.declared.page.Rendered.{Rendered}
 use Rattle.render.specs.declared.page.Rendered.the-variants.{Page, Refused}
 use Rattle.render.specs.declared.order.Lengths.{Lengths}
 use Rattle.render.specs.Order.{InOrder}
-use Rattle.solve_workspace.specs.Meets.{limits}
 use Rattle.render.specs.Rendered.{meant, page-length, span-count}
 use Rattle.render.specs.Call.{settings}
 use Rattle.desks.specs.declared.Desks.{Desks}
 use Rattle.desks.specs.Desks.{last-desk, allowed}
-use Rattle.desks.specs.Served.{Served, out-of-order, no-desk, served}
-use Rattle.desks.specs.Layer.{came}
+use Rattle.desks.specs.Layer.{came, lent-unit, served-by}
 use Rattle.desks.specs.Kinds.{single}
 use Rattle.desks.specs.Calls.{DeskRendering}
 use Rattle.batch.specs.Batch.{Batch, rest, rest-lent, next, One, Filed, none, more}
@@ -91,9 +88,4 @@ part-in-order {b = b} {l = l} n m i = record {
 -- so each document is answered as by a single call for a desk that is there
 pub was-tried : {d : ℕ} {o : RenderOptions} {b : Bounds} {l : Lengths} {file : List ℕ} {F G : Batch} → InOrder o b l → d ≤ last-desk → (h : One d o b l file F G)
     → single file (settings o) (allowed (F .shared .desks) d (limits (rest b (F .bytes) (F .spans)))) (meant (h .told) (h .output) (h .rows)) tt
-was-tried {d} {o} {b} {l} {file} {F} i e h = go (part-in-order (F .bytes) (F .spans) i) (h .call .right .serving .answers)
-  where
-    go : {lent : Type 0} {m : Limits} {a : Answer} {E : Desks} → lent → Served lent (F .shared .desks) d (single file (settings o)) m tt a tt E → single file (settings o) (allowed (F .shared .desks) d m) a tt
-    go j (out-of-order n) = absurd (n j)
-    go j (no-desk w g) = absurd (omega (arith, e, g))
-    go j (served w g c) = c
+was-tried {F = F} i e h = served-by e (lent-unit (part-in-order (F .bytes) (F .spans) i) (h .call .right .serving .answers))

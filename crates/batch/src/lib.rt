@@ -3,13 +3,11 @@ ghost use mathlib.Core.Path.{_≡_};
 ghost use Prim.Native.Nat.{_+_, _≤_, _<_, _^_, min};
 ghost use lib.ListN.{length};
 ghost use Rattle.file_checks.specs.Told.{Told};
-ghost use Rattle.render.specs.Rendered.{page-length, span-count};
 ghost use Rattle.desks.specs.Desks.{remaining};
-ghost use Rattle.desks.specs.Lent.{work-in};
 ghost use Rattle.batch.specs.Documents.{total, most-documents};
 ghost use Rattle.batch.specs.Batch.{rest};
 ghost use Rattle.batch.specs.Batched.{BatchLent, BatchGate};
-ghost use Rattle.batch.specs.Values.{refusal, beginning, advanced, gone-on, last-counts, ending};
+ghost use Rattle.batch.specs.Values.{refusal, beginning, advanced, gone-on, Taken, last-counts, ending};
 use call_words::accounts::row_counts;
 use desks::SharedRecord;
 use desks::charged;
@@ -166,7 +164,7 @@ fn advanced(p: Progress, to: usize, bytes: usize, spans: usize, work: u64) -> Pr
 
 // After a document whose bytes end at `to`. A page takes its bytes and spans; a refused document takes none.
 pub fn go_on(p: Progress, to: usize, a: Rendered) -> Progress
-    requires { ⌜ (p .filed < most-documents) × (p .bytes + page-length a < 2 ^ 32) × (p .spans + span-count a < 2 ^ 32) × (p .work + work-in a < 2 ^ 64) ⌝ }
+    requires { ⌜ Taken p a ⌝ }
     ensures { λ q. ⌜ q ≡ gone-on p to a ⌝ }
 {
     match a {

@@ -14,12 +14,12 @@ use Rattle.desks.specs.Desks.{last-desk, remaining}
 use Rattle.desks.specs.Layer.{charged-nothing}
 use Rattle.batch.specs.declared.FiledAll.{FiledAll}
 use Rattle.batch.specs.declared.Progress.{Progress}
-use Rattle.batch.specs.Documents.{cut, most-documents}
+use Rattle.batch.specs.Documents.{cut, document, most-documents}
 use Rattle.batch.specs.Cuts.{documents-suc, all-documents}
 use Rattle.batch.specs.Batch.{One, Filed, none, more}
 use Rattle.batch.specs.Batched.{BatchLent, Batched, out-of-order, no-desk, too-many, filed, begun, ended, BatchGate, opens, order, desk, many}
 use Rattle.batch.specs.Values.{refusal, beginning, ending, held}
-use Rattle.batch_call.specs.Going.{document, Ready, Tried, Came}
+use Rattle.batch_call.specs.Going.{Ready, Tried, Came}
 
 pub alike : {l m : Lengths} → l .nodes ≡ m .nodes → l .edges ≡ m .edges → l .choices ≡ m .choices → l .texts ≡ m .texts → l .bytes ≡ m .bytes → l .tasks ≡ m .tasks → l .results ≡ m .results → l .pending ≡ m .pending
     → l .index ≡ m .index → l .entries ≡ m .entries → l .kept ≡ m .kept → l .frontier ≡ m .frontier → l .plans ≡ m .plans → l .visit ≡ m .visit → l .depth ≡ m .depth → l .output ≡ m .output → l .spans ≡ m .spans → l ≡ m

@@ -4,29 +4,30 @@ use mathlib.Core.List.{List, [], _++_, append-nil}
 use Prim.Native.Nat.{ℕ, suc, _+_, _-_, _≤_, _<_, _^_}
 use native.Mathlib.Omega.{arith}
 use lib.ListN.{length, getD, take, drop, set, length-drop, length-set, drop-of-length-le}
-use lib.Seq.{take-all, getD-set-same, set-set}
+use lib.Seq.{take-all, getD-set-same}
 use Rattle.stats.specs.declared.SolveStats.{SolveStats}
 use Rattle.solve_workspace.specs.declared.Bounds.{Bounds}
 use Rattle.solve_workspace.specs.declared.RenderOptions.{RenderOptions}
 use Rattle.materialize.specs.Rows.{Row}
 use Rattle.render.specs.declared.page.Rendered.{Rendered}
-use Rattle.render.specs.declared.page.Rendered.the-variants.{Page, Refused}
 use Rattle.render.specs.declared.order.Lengths.{Lengths}
-use Rattle.render.specs.Rendered.{page-length, span-count, counts-of}
+use Rattle.render.specs.Rendered.{counts-of}
 use Rattle.desks.specs.declared.Desks.{Desks}
 use Rattle.desks.specs.Desks.{remaining, charged}
 use Rattle.desks.specs.Lent.{work-in}
+use Rattle.desks.specs.Layer.{charged-on}
 use Rattle.desks.specs.Calls.{DeskRendering}
 use Rattle.desks.proofs.Calling.{work-of-call}
 use Rattle.call_words.specs.Words.{words}
 use Rattle.call_words.specs.Accounts.{counts-from}
+use Rattle.call_words.specs.Again.{counts-told}
 use Rattle.batch.specs.declared.Progress.{Progress}
-use Rattle.batch.specs.Documents.{total, most-documents}
+use Rattle.batch.specs.Documents.{total, document}
 use Rattle.batch.specs.Cuts.{total-suc, total-part}
 use Rattle.batch.specs.Batch.{Batch, rest, rest-lent, One}
-use Rattle.batch.specs.Values.{gone-on, last-counts, held}
+use Rattle.batch.specs.Values.{gone-on, Taken, last-counts, held}
 use Rattle.batch.specs.Within.{page-within, spans-within, one-inside}
-use Rattle.batch_call.specs.Going.{document, Ready, Tried}
+use Rattle.batch_call.specs.Going.{Ready, Tried}
 
 -- ---- a part that goes to the end, and the whole with such a part put back
 
@@ -50,17 +51,8 @@ module _ {A : Type 0} (n : ℕ) (was : List A) where
 
 -- ---- the record
 
-charged-on : (D : Desks) (d w v : ℕ) → d < length (D .spent) → charged (charged D d w) d v ≡ charged D d (w + v)
-charged-on D d w v h =
-    let e : getD (set (D .spent) d (getD (D .spent) d 0 + w)) d 0 + v ≡ getD (D .spent) d 0 + (w + v) = omega (arith, getD-set-same (D .spent) d (getD (D .spent) d 0 + w) 0 h) in
-    rw (e, set-set (D .spent) d (getD (D .spent) d 0 + w) (getD (D .spent) d 0 + (w + v))) refl
-
 left-then : (D : Desks) (d w v : ℕ) → d < length (D .spent) → w ≤ remaining D d → v ≤ remaining (charged D d w) d → w + v ≤ remaining D d
 left-then D d w v h f g = omega (arith, f, g, getD-set-same (D .spent) d (getD (D .spent) d 0 + w) 0 h)
-
-counts-told : (a : Rendered) → counts-from 7 (words a) ≡ counts-of a
-counts-told (Page c n m k q) = refl
-counts-told (Refused n needed k) = refl
 
 last-told : (k : SolveStats) (n : ℕ) (answers : List Row) (a : Rendered) → n < length answers → last-counts k (n + 1) (set answers n (words a)) ≡ counts-of a
 last-told k n answers a h =
@@ -141,7 +133,7 @@ module _ {d : ℕ} {D : Desks} {b : Bounds} {files lengths : List ℕ} {p : Prog
             left-then D d (p .work) (work-in a) (omega (arith, R .desk, R .counted)) (R .work-in) (work-of-call carried)
 
         -- what it takes has its place
-        pub takes : (p .filed < most-documents) × (p .bytes + page-length a < 2 ^ 32) × (p .spans + span-count a < 2 ^ 32) × (p .work + work-in a < 2 ^ 64)
+        pub takes : Taken p a
         takes = (
           omega (arith, h, R .few),
           omega (arith, page-within out-length rows-length a carried, R .bytes-in, R .sizes .0),

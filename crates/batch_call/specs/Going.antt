@@ -2,7 +2,7 @@
 use mathlib.Core.Path.{_≡_}
 use mathlib.Core.List.{List}
 use Prim.Native.Nat.{ℕ, _+_, _≤_, _<_, _^_}
-use lib.ListN.{length, getD, take, drop}
+use lib.ListN.{length, getD, take}
 use Rattle.stats.specs.declared.SolveStats.{SolveStats}
 use Rattle.solve_workspace.specs.declared.Bounds.{Bounds}
 use Rattle.solve_workspace.specs.declared.RenderOptions.{RenderOptions}
@@ -11,13 +11,9 @@ use Rattle.render.specs.declared.order.Lengths.{Lengths}
 use Rattle.desks.specs.declared.Desks.{Desks}
 use Rattle.desks.specs.Desks.{last-desk, remaining}
 use Rattle.batch.specs.declared.Progress.{Progress}
-use Rattle.batch.specs.Documents.{cut, total, most-documents}
+use Rattle.batch.specs.Documents.{cut, total, document, most-documents}
 use Rattle.batch.specs.Batch.{One, Filed}
 use Rattle.batch.specs.Values.{beginning, held}
-
--- the bytes of the document with a number
-abbrev pub document : List ℕ → List ℕ → ℕ → List ℕ
-document files lengths i = take (getD lengths i 0) (drop (total (take i lengths)) files)
 
 -- the documents are few and have their rows and bytes; what is used is within its sizes and these within what is lent; the next document starts behind those before it; their work was the desk's to do; and what the types of sizes and desks say
 pub record Ready (d : ℕ) (D : Desks) (b : Bounds) (files lengths : List ℕ) (p : Progress) (output : List ℕ) (rows answers : List Row) : Type 0 where

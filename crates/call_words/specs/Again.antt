@@ -1,4 +1,4 @@
--- Words that are read and written again are as they were.
+-- Words that are read and written again are as they were, and an answer's words have its counts.
 use mathlib.Core.Path.{_≡_, refl, sym, ap, _∙_}
 use mathlib.Core.Logic.{by-cases}
 use mathlib.Core.List.{List, []}
@@ -7,7 +7,10 @@ use native.Mathlib.Omega.{arith}
 use native.Mathlib.Decide.{decLt}
 use lib.ListN.{length, getD}
 use lib.Seq.{ext-getD}
-use Rattle.call_words.specs.Words.{count-words}
+use Rattle.render.specs.declared.page.Rendered.{Rendered}
+use Rattle.render.specs.declared.page.Rendered.the-variants.{Page, Refused}
+use Rattle.render.specs.Rendered.{counts-of}
+use Rattle.call_words.specs.Words.{count-words, words}
 use Rattle.call_words.specs.Accounts.{eight, desks-at, desk-words, counts-from}
 
 eight-at : (f : ℕ → ℕ) (rest : List ℕ) (i : ℕ) → i < 8 → getD (eight f rest) i 0 ≡ f i
@@ -55,3 +58,7 @@ counts-again w n = ext-getD 0 (count-words (counts-from 0 w) []) w (sym n) at
     at (suc (suc (suc (suc (suc (suc (suc (suc zero)))))))) h = refl
     at (suc (suc (suc (suc (suc (suc (suc (suc (suc zero))))))))) h = refl
     at (suc (suc (suc (suc (suc (suc (suc (suc (suc (suc i)))))))))) h = absurd (omega (arith, h))
+
+pub counts-told : (a : Rendered) → counts-from 7 (words a) ≡ counts-of a
+counts-told (Page c n m k q) = refl
+counts-told (Refused n needed k) = refl

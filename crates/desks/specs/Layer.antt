@@ -1,9 +1,9 @@
 -- The layer, over any kind of call: one answer, one state and one record; the desk's count has its place; what is shown of a kind of call is so for desks.
 use mathlib.Core.Path.{_≡_, refl, sym, ap, subst}
-use Prim.Native.Nat.{ℕ, _+_, _-_, _≤_, _<_, _^_}
+use Prim.Native.Nat.{ℕ, _+_, _≤_, _<_, _^_}
 use native.Mathlib.Omega.{arith}
-use lib.ListN.{getD}
-use lib.Seq.{set-getD}
+use lib.ListN.{length, getD, set}
+use lib.Seq.{set-getD, set-set, getD-set-same}
 use Rattle.machine.specs.Events.{Bounds, Counts}
 use Rattle.machine.specs.Materializer.{Rendered}
 use Rattle.machine.specs.Answer.{Answer, paged, refused}
@@ -17,6 +17,12 @@ pub charged-nothing : (D : Desks) (d : ℕ) → charged D d 0 ≡ D
 charged-nothing D d =
     let e : getD (D .spent) d 0 + 0 ≡ getD (D .spent) d 0 = omega arith in
     rw (e, set-getD (D .spent) d 0) refl
+
+-- more work for the same desk
+pub charged-on : (D : Desks) (d w v : ℕ) → d < length (D .spent) → charged (charged D d w) d v ≡ charged D d (w + v)
+charged-on D d w v h =
+    let e : getD (set (D .spent) d (getD (D .spent) d 0 + w)) d 0 + v ≡ getD (D .spent) d 0 + (w + v) = omega (arith, getD-set-same (D .spent) d (getD (D .spent) d 0 + w) 0 h) in
+    rw (e, set-set (D .spent) d (getD (D .spent) d 0 + w) (getD (D .spent) d 0 + (w + v))) refl
 
 -- no more work than the desk may still do: its count has its place
 pub has-place : (D : Desks) (d w : ℕ) → w ≤ remaining D d → getD (D .allowance) d 0 < 2 ^ 64 → getD (D .spent) d 0 < 2 ^ 64 → getD (D .spent) d 0 + w < 2 ^ 64
@@ -44,8 +50,14 @@ module _ {S : Type 0} {call : Bounds → Answer → S → Type 0} {X : S} where
   record-after {D = D} {d = d} (no-desk l h) = sym (charged-nothing D d)
   record-after (served l h c) = refl
 
+  -- where what 1 asks is there, nothing is left of it
+  pub lent-unit : {lent : Type 0} {D : Desks} {d : ℕ} {b : Bounds} {a : Answer} {Z : S} {D′ : Desks} → lent → Served lent D d call b X a Z D′ → Served (Unit {0}) D d call b X a Z D′
+  lent-unit l (out-of-order n) = absurd (n l)
+  lent-unit l (no-desk m h) = no-desk tt h
+  lent-unit l (served m h c) = served tt h c
+
   -- a desk 0 to 7 with what 1 asks is served
-  served-by : {E : Desks} {e : ℕ} {m : Bounds} {z : Answer} {Y : S} {E′ : Desks} → e ≤ last-desk → Served (Unit {0}) E e call m X z Y E′ → call (allowed E e m) z Y
+  pub served-by : {E : Desks} {e : ℕ} {m : Bounds} {z : Answer} {Y : S} {E′ : Desks} → e ≤ last-desk → Served (Unit {0}) E e call m X z Y E′ → call (allowed E e m) z Y
   served-by h (out-of-order n) = absurd (n tt)
   served-by h (no-desk l g) = absurd (omega (arith, g, h))
   served-by h (served l g c) = c
