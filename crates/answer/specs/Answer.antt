@@ -1,7 +1,7 @@
 -- What a call answers (document 01, "Calls"), from the file's bytes, the settings, the sizes and limits, and whether the lent memory is as long as its sizes.
 use Rattle.std.specs.Prelude.{List, ℕ, ◌≤◌}
 use Rattle.layout.specs.Rules.{Rules, charging}
-use Rattle.file_form.specs.Form.{tables_of, countsOf}
+use Rattle.file_form.specs.Form.{tables_of, counts_of}
 use Rattle.prepare.specs.declared.read.Answer.TheVariants.{Accepted, Refused}
 use Rattle.prepare.specs.File.{Means}
 use Rattle.machine_input.specs.Reading.{prepared}
@@ -39,4 +39,4 @@ lent_as w o = record { wide = o.wide; policy_known = o.policy_known; rule_known 
 pub data Answers (lent : Type 0) (file : List ℕ) (c : Settings) (b : Bounds) : Answer → Type 0 where
   out_of_order : (Ordered lent c → ⊥) → Answers lent file c b (refused 1 0 no_counts)
   wrong_file : (n : ℕ) → Ordered lent c → Means file (Refused n) → Answers lent file c b (refused n 0 no_counts)
-  laid_out : Ordered lent c → Means file (Accepted (countsOf file)) → Answers lent file c b (answer (rules_of c) (document_of file) b)
+  laid_out : Ordered lent c → Means file (Accepted (counts_of file)) → Answers lent file c b (answer (rules_of c) (document_of file) b)

@@ -5,59 +5,39 @@ use Rattle.std.proofs.Common.{sym, ◌∙◌, subst, arith}
 use Rattle.std.proofs.lemmas.Bool.{false≢true}
 use Rattle.file_tables.specs.Tables.{Tables, tables}
 use Rattle.file_utf8.specs.Bytewise.{more, low, high, rest, well}
-use Rattle.file_utf8.specs.Rows.{utf8_well}
+use Rattle.file_utf8.proofs.Rows.{utf8_well}
 use Rattle.file_checks.specs.Texts.{text_bytes, TextsOk}
 use Rattle.file_checks.specs.Judged.{Judged, text, space}
 use Rattle.prepare.specs.File.{wrong}
 use Rattle.machine.specs.Events.{Bounds, no_counts}
 use Rattle.machine.specs.Answer.{Answer, paged, refused}
 use Rattle.answer.specs.Answer.{Settings, Answers, out_of_order, wrong_file}
-use Rattle.answer.specs.Worked.{bytes_of, sound, texted, tried, page_bounds, counted, needing, file_read, references_right, texts_right, worked}
+use Rattle.answer.specs.Worked.{bytes_of, sound, texted, counted, needing, file_read, references_right, texts_right}
 
-abbrev at_80 : Settings
+abbrev pub at_80 : Settings
 at_80 = record { width = 80; newline_cost = 0; policy = 0; rule = 1 }
 
 -- ---- the example: one Text, `ab`, at W 80
 
-abbrev ab_file : List ℕ
+abbrev pub ab_file : List ℕ
 ab_file = 69 ∷ 1 ∷ 0 ∷ 0 ∷ 0 ∷ 2 ∷ 0 ∷ 0 ∷ 0 ∷ 1 ∷ 0 ∷ 0 ∷ 0 ∷ 0 ∷ 1 ∷ 3 ∷ 2 ∷ 0 ∷ 0 ∷ 0 ∷ 2 ∷ 0 ∷ 0 ∷ 0 ∷ 97 ∷ 98 ∷ 3 ∷ 1 ∷ 0 ∷ 0 ∷ 0 ∷ 1 ∷ 0 ∷ 0 ∷ 0 ∷ 32 ∷ []
 
-abbrev ab_tables : Tables
+abbrev pub ab_tables : Tables
 ab_tables = tables ((1 ∷ 0 ∷ 0 ∷ 0 ∷ 0 ∷ 0 ∷ 0 ∷ 0 ∷ []) ∷ []) [] [] ((2 ∷ 2 ∷ 0 ∷ []) ∷ (1 ∷ 1 ∷ 2 ∷ []) ∷ []) (97 ∷ 98 ∷ 32 ∷ []) 0 0 1
-
--- the page `ab`, work 2, overflow 0, burden 0, no spans; one of each kind is needed, no depth, 2 bytes
-pub example :
-    Answers (Unit {0}) ab_file at_80 (page_bounds 1000000)
-    (paged (record { bytes = 97 ∷ 98 ∷ []; spans = []; cost = record { overflow = 0; burden = 0 } }) (needing (counted 2 0 1 1 0 1 1 1 1) 1 1 1 1 1 1 0 2 0))
-unfolding bytes_of sound texted tried
-example = worked ab_tables refl refl refl refl refl
-
--- work limit 1: 12, with the counts before the step that was not taken
-pub work_spent : Answers (Unit {0}) ab_file at_80 (page_bounds 1) (refused 12 0 (counted 1 0 1 0 0 0 0 0 0))
-unfolding bytes_of sound texted tried
-work_spent = worked ab_tables refl refl refl refl refl
 
 -- ---- one Text, `abc`, at W 1: rule 1 charges 4, rule 2 charges 2; another rule is 1, whatever the file
 
-abbrev abc_file : List ℕ
+abbrev pub abc_file : List ℕ
 abc_file = 69 ∷ 1 ∷ 0 ∷ 0 ∷ 0 ∷ 2 ∷ 0 ∷ 0 ∷ 0 ∷ 1 ∷ 0 ∷ 0 ∷ 0 ∷ 0 ∷ 1 ∷ 3 ∷ 3 ∷ 0 ∷ 0 ∷ 0 ∷ 3 ∷ 0 ∷ 0 ∷ 0 ∷ 97 ∷ 98 ∷ 99 ∷ 3 ∷ 1 ∷ 0 ∷ 0 ∷ 0 ∷ 1 ∷ 0 ∷ 0 ∷ 0 ∷ 32 ∷ []
 
-abbrev abc_tables : Tables
+abbrev pub abc_tables : Tables
 abc_tables = tables ((1 ∷ 0 ∷ 0 ∷ 0 ∷ 0 ∷ 0 ∷ 0 ∷ 0 ∷ []) ∷ []) [] [] ((3 ∷ 3 ∷ 0 ∷ []) ∷ (1 ∷ 1 ∷ 3 ∷ []) ∷ []) (97 ∷ 98 ∷ 99 ∷ 32 ∷ []) 0 0 1
 
-abbrev at_1_under : ℕ → Settings
+abbrev pub at_1_under : ℕ → Settings
 at_1_under r = record { width = 1; newline_cost = 0; policy = 0; rule = r }
 
-abbrev abc_page : ℕ → Answer
+abbrev pub abc_page : ℕ → Answer
 abc_page o = paged (record { bytes = 97 ∷ 98 ∷ 99 ∷ []; spans = []; cost = record { overflow = o; burden = 0 } }) (needing (counted 2 0 1 1 0 1 1 1 1) 1 1 1 1 1 1 0 3 0)
-
-pub abc_rule_1 : Answers (Unit {0}) abc_file (at_1_under 1) (page_bounds 1000000) (abc_page 4)
-unfolding bytes_of sound texted tried
-abc_rule_1 = worked abc_tables refl refl refl refl refl
-
-pub abc_rule_2 : Answers (Unit {0}) abc_file (at_1_under 2) (page_bounds 1000000) (abc_page 2)
-unfolding bytes_of sound texted tried
-abc_rule_2 = worked abc_tables refl refl refl refl refl
 
 pub rule_0 : (file : List ℕ) (b : Bounds) → Answers (Unit {0}) file (at_1_under 0) b (refused 1 0 no_counts)
 rule_0 file b = out_of_order (λ o. omega (arith, o.rule_known.0))
@@ -115,14 +95,8 @@ unfolding bytes_of sound more low high rest
 halves = ill_text halves_tables halves_file 1 refl refl (omega arith) refl
 
 -- one Text of display width 1, the same character whole
-abbrev whole_file : List ℕ
+abbrev pub whole_file : List ℕ
 whole_file = 69 ∷ 1 ∷ 0 ∷ 0 ∷ 0 ∷ 2 ∷ 0 ∷ 0 ∷ 0 ∷ 1 ∷ 0 ∷ 0 ∷ 0 ∷ 0 ∷ 1 ∷ 3 ∷ 1 ∷ 0 ∷ 0 ∷ 0 ∷ 2 ∷ 0 ∷ 0 ∷ 0 ∷ 195 ∷ 169 ∷ 3 ∷ 1 ∷ 0 ∷ 0 ∷ 0 ∷ 1 ∷ 0 ∷ 0 ∷ 0 ∷ 32 ∷ []
 
-abbrev whole_tables : Tables
+abbrev pub whole_tables : Tables
 whole_tables = tables ((1 ∷ 0 ∷ 0 ∷ 0 ∷ 0 ∷ 0 ∷ 0 ∷ 0 ∷ []) ∷ []) [] [] ((1 ∷ 2 ∷ 0 ∷ []) ∷ (1 ∷ 1 ∷ 2 ∷ []) ∷ []) (195 ∷ 169 ∷ 32 ∷ []) 0 0 1
-
-pub whole :
-    Answers (Unit {0}) whole_file at_80 (page_bounds 1000000)
-    (paged (record { bytes = 195 ∷ 169 ∷ []; spans = []; cost = record { overflow = 0; burden = 0 } }) (needing (counted 2 0 1 1 0 1 1 1 1) 1 1 1 1 1 1 0 2 0))
-unfolding bytes_of sound texted tried
-whole = worked whole_tables refl refl refl refl refl

@@ -1,62 +1,24 @@
 -- Every answer is as promised; under sizes and limits none smaller a page stays the same page, counts too; so it does under just the sizes that it needs, and under less of one kind it is that kind's refusal; the counts balance.
 use Rattle.std.specs.Prelude.{◌≡◌, refl, List, ℕ, ◌≤◌, length}
-use Rattle.std.proofs.Common.{ap, subst, arith}
-use Rattle.layout.specs.Charging.{charging_lawful}
+use Rattle.std.proofs.Common.{subst, arith}
 use Rattle.file_encode.specs.Fields.{Bytes}
-use Rattle.machine.specs.Numbers.{Numbered, listed, machine_numbered}
 use Rattle.machine.specs.Events.{Bounds, Counts, Kind, size, need_of}
 use Rattle.machine.specs.Materializer.{Rendered}
-use Rattle.machine.specs.Answer.{Answer, paged, refused, answer}
-use Rattle.machine.specs.Balance.{Balanced, counts_in, balanced_answer}
+use Rattle.machine.specs.Answer.{Answer, paged, answer}
+use Rattle.machine.specs.Balance.{Balanced, counts_in}
+use Rattle.machine.proofs.Balance.{balanced_answer}
 use Rattle.machine.specs.Larger.{Larger, larger_answer}
-use Rattle.machine.specs.Just.{just, Smaller, Short, RefusedBy, within_answer, just_answer, short_answer, less_answer}
+use Rattle.machine.specs.Just.{just, Smaller, Short, RefusedBy}
+use Rattle.machine.proofs.Just.{within_answer, just_answer, short_answer, less_answer}
 use Rattle.machine_right.specs.Pruned.{Fair, fair_answer}
 use Rattle.machine_right.specs.FirstLeaf.{Used, used}
 use Rattle.machine_right.specs.PageSizes.{output_is, spans_are}
-use Rattle.machine_right.specs.Right.{RightPage, Right, answer_right}
-use Rattle.machine_right.specs.Right.{right_page as found_page, right_refusal as found_refusal}
-use Rattle.file_form.specs.Form.{countsOf}
+use Rattle.file_form.specs.Form.{counts_of}
 use Rattle.prepare.specs.declared.read.Answer.TheVariants.{Accepted}
 use Rattle.prepare.specs.File.{Means}
 use Rattle.answer.specs.Answer.{Settings, Ordered, rules_of, document_of, lent_as, Answers, out_of_order, wrong_file, laid_out}
-use Rattle.answer.specs.Page.{RulesPage, Promised, right_page, right_refusal}
 use Rattle.answer.specs.Ready.{means_ready}
-use Rattle.answer.specs.Faults.{file_faults}
 use Rattle.answer.specs.Exactly.{answers_one}
-
--- ---- every answer is as promised
-
-rules_page : (file : List ℕ) (c : Settings) {r : Rendered} → RightPage (rules_of c) (document_of file) r → RulesPage file c r
-rules_page file c p = record {
-  layout = p.layout;
-  rule = p.rule;
-  bytes_are = ap (λ (x : Rendered). x.bytes) p.is;
-  spans_are = ap (λ (x : Rendered). x.spans) p.is;
-  overflow_is = ap (λ (x : Rendered). x.cost.overflow) p.is;
-  burden_is = ap (λ (x : Rendered). x.cost.burden) p.is;
-}
-
-promised_of : (file : List ℕ) (c : Settings) {a : Answer} → Right (rules_of c) (document_of file) a → Promised file c a
-promised_of file c (found_page p) = right_page (rules_page file c p)
-promised_of file c (found_refusal l) = right_refusal (machine_numbered l)
-
-module _ {lent : Type 0} {file : List ℕ} {c : Settings} {b : Bounds} (z : Bytes file) where
-  pub promised : {a : Answer} → Answers lent file c b a → Promised file c a
-  promised (out_of_order n) = right_refusal {n = 1} (listed (omega arith) (omega arith))
-  promised (wrong_file n o m) = let h = file_faults m in right_refusal {n = n} (listed (omega (arith, h.0)) (omega (arith, h.1)))
-  promised (laid_out o m) = promised_of file c (answer_right (rules_of c) (charging_lawful c.rule c.width c.newline_cost c.policy) (document_of file) (means_ready file z m) b)
-
-  pub page_right : {r : Rendered} {k : Counts} → Answers lent file c b (paged r k) → RulesPage file c r
-  page_right {r} {k} a = go (promised a)
-    where
-      go : Promised file c (paged r k) → RulesPage file c r
-      go (right_page p) = p
-
-  pub refusal_right : {n m : ℕ} {k : Counts} → Answers lent file c b (refused n m k) → Numbered n
-  refusal_right {n} {m} {k} a = go (promised a)
-    where
-      go : Promised file c (refused n m k) → Numbered n
-      go (right_refusal h) = h
 
 -- ---- under sizes and limits none smaller
 
@@ -80,7 +42,7 @@ module _ {lent wider : Type 0} {file : List ℕ} {c : Settings} {b d : Bounds} (
 -- how a page came about
 record LaidOut (lent : Type 0) (file : List ℕ) (c : Settings) (b : Bounds) (a : Answer) : Type 0 where
   pub ordered : Ordered lent c
-  pub means : Means file (Accepted (countsOf file))
+  pub means : Means file (Accepted (counts_of file))
   pub is : answer (rules_of c) (document_of file) b ≡ a
 
 module _ {lent : Type 0} {file : List ℕ} {c : Settings} {b : Bounds} {r : Rendered} {k : Counts} where
@@ -90,7 +52,7 @@ module _ {lent : Type 0} {file : List ℕ} {c : Settings} {b : Bounds} {r : Rend
   laid_page (laid_out o m) e = record { ordered = o; means = m; is = e }
 
   -- a page is an accepted file's
-  pub accepted_page : Answers lent file c b (paged r k) → Means file (Accepted (countsOf file))
+  pub accepted_page : Answers lent file c b (paged r k) → Means file (Accepted (counts_of file))
   accepted_page p = (laid_page p refl).means
 
   -- what is needed was lent

@@ -5,12 +5,12 @@ use Prim.Native.Nat.{ℕ, zero, suc, ◌≤◌, ◌+◌}
 use Rattle.std.proofs.Common.{arith}
 use Rattle.file_tables.specs.Tables.{Tables}
 use Rattle.file_fields.specs.declared.Step.{Step}
-use Rattle.file_fields.specs.Fields.{pick, got, refused, after, byte_at, word_at, nonzero, field_at, number_at, limited, countAt, formed}
-use Rattle.file_fields.specs.Header.{hMap, hNodes, hEdges, hTexts, hAnnotations, hChoices, hRoot, hSpace, header_at}
-use Rattle.file_form.specs.Nodes.{checked, mapAt, kind_at, nMap, nKind, nFirst, nSecond, nFlat, nStart, nLength, nSkipped, nodeAt, afterNodes}
-use Rattle.file_form.specs.Numbers.{afterNumbers, surplus}
-use Rattle.file_form.specs.Texts.{totalled, spanAt, tMap, tWidth, tLength, tEnd, afterTexts}
-use Rattle.file_form.specs.Form.{fNodes, fEdges, fChoices, fTexts, fEnd, formFault}
+use Rattle.file_fields.specs.Fields.{pick, got, refused, after, byte_at, word_at, nonzero, field_at, number_at, limited, count_at, formed}
+use Rattle.file_fields.specs.Header.{h_map, h_nodes, h_edges, h_texts, h_annotations, h_choices, h_root, h_space, header_at}
+use Rattle.file_form.specs.Nodes.{checked, map_at, kind_at, n_map, n_kind, n_first, n_second, n_flat, n_start, n_length, n_skipped, node_at, after_nodes}
+use Rattle.file_form.specs.Numbers.{after_numbers, surplus}
+use Rattle.file_form.specs.Texts.{totalled, span_at, t_map, t_width, t_length, t_end, after_texts}
+use Rattle.file_form.specs.Form.{f_nodes, f_edges, f_choices, f_texts, f_end, form_fault}
 use Rattle.file_checks.specs.Judged.{Judged, reference, text, space, circle, list, accepted}
 use Rattle.prepare.specs.declared.read.Answer.TheVariants.{Refused}
 use Rattle.prepare.specs.File.{Means, ill, wrong}
@@ -72,8 +72,8 @@ module _ (s : List ℕ) where
   unfolding limited
   low_limited low high f l = low_pick (eqb f.fault 0) _ _ (low_pick (leb low f.value) _ _ (low_pick (leb f.value high) _ _ l (four _)) (four _)) (again f l)
 
-  low_count : (on : Bool) (low high : ℕ) (p : Step) → Low p → Low (countAt s on low high p)
-  unfolding countAt
+  low_count : (on : Bool) (low high : ℕ) (p : Step) → Low p → Low (count_at s on low high p)
+  unfolding count_at
   low_count on low high p l = low_limited low high (field_at s on p) (low_field on p l)
 
   low_formed : (high : ℕ) (f : Step) → Low f → Low (formed high f)
@@ -87,54 +87,54 @@ module _ (s : List ℕ) where
   -- ---- the header
 
   low_header : Low (header_at s).next
-  unfolding header_at hSpace hRoot hChoices hAnnotations hTexts hEdges hNodes hMap
+  unfolding header_at h_space h_root h_choices h_annotations h_texts h_edges h_nodes h_map
   low_header =
       low_field _ _ (low_field _ _ (low_count _ 0 16384 _ (low_count _ 0 4096 _ (low_count _ 1 4096 _ (low_count _ 0 16384 _ (low_count _ 1 4096 _ (low_formed 127 _ (low_byte (got 0 0) (low_got 0 0)))))))))
 
   -- ---- the records
 
-  low_node : (p : Step) → Low p → Low (nodeAt s p).next
-  unfolding nodeAt nSkipped nLength nStart nFlat nSecond nFirst nKind nMap mapAt kind_at
+  low_node : (p : Step) → Low p → Low (node_at s p).next
+  unfolding node_at n_skipped n_length n_start n_flat n_second n_first n_kind n_map map_at kind_at
   low_node p l =
       low_field _ _ (low_field _ _ (low_field _ _ (low_number _ _ (low_field _ _ (low_field _ _ (low_checked _ _ (low_byte _ (low_checked _ _ (low_byte p l)))))))))
 
-  low_nodes : (p : Step) (k : ℕ) → Low p → Low (afterNodes s p k)
-  unfolding afterNodes
+  low_nodes : (p : Step) (k : ℕ) → Low p → Low (after_nodes s p k)
+  unfolding after_nodes
   low_nodes p zero l = l
-  low_nodes p (suc k) l = low_node (afterNodes s p k) (low_nodes p k l)
+  low_nodes p (suc k) l = low_node (after_nodes s p k) (low_nodes p k l)
 
-  low_numbers : (p : Step) (k : ℕ) → Low p → Low (afterNumbers s p k)
-  unfolding afterNumbers
+  low_numbers : (p : Step) (k : ℕ) → Low p → Low (after_numbers s p k)
+  unfolding after_numbers
   low_numbers p zero l = l
-  low_numbers p (suc k) l = low_number true (afterNumbers s p k) (low_numbers p k l)
+  low_numbers p (suc k) l = low_number true (after_numbers s p k) (low_numbers p k l)
 
   low_totalled : (total : ℕ) (f : Step) → Low f → Low (totalled total f)
   unfolding totalled
   low_totalled total f l = low_pick (eqb f.fault 0) _ _ (low_pick (leb (total + f.value) 65536) _ _ l (four _)) (again f l)
 
-  low_span : (f : Step) → Low f → Low (spanAt s f)
-  unfolding spanAt
+  low_span : (f : Step) → Low f → Low (span_at s f)
+  unfolding span_at
   low_span f l = low_pick (eqb f.fault 0) _ _ (low_pick (leb (f.at + f.value) (length s)) _ _ (low_got _ _) (two _)) (again f l)
 
-  low_text : (total : ℕ) (p : Step) → Low p → Low (tEnd s total p)
-  unfolding tEnd tLength tWidth tMap
+  low_text : (total : ℕ) (p : Step) → Low p → Low (t_end s total p)
+  unfolding t_end t_length t_width t_map
   low_text total p l = low_span _ (low_totalled total _ (low_field _ _ (low_field _ _ (low_formed 3 _ (low_byte p l)))))
 
-  low_texts : (p : Step) (k : ℕ) → Low p → Low (afterTexts s p k).next
-  unfolding afterTexts
+  low_texts : (p : Step) (k : ℕ) → Low p → Low (after_texts s p k).next
+  unfolding after_texts
   low_texts p zero l = l
-  low_texts p (suc k) l = low_text (afterTexts s p k).total (afterTexts s p k).next (low_texts p k l)
+  low_texts p (suc k) l = low_text (after_texts s p k).total (after_texts s p k).next (low_texts p k l)
 
   low_surplus : (p : Step) → Low p → Low (surplus s p)
   unfolding surplus
   low_surplus p l = low_after p _ l (low_pick (eqb p.at (length s)) _ _ l (low_refused 5 _ (omega arith) (λ e. omega arith)))
 
-  low_end : Low (fEnd s)
-  unfolding fEnd fTexts fChoices fEdges fNodes
+  low_end : Low (f_end s)
+  unfolding f_end f_texts f_choices f_edges f_nodes
   low_end = low_surplus _ (low_texts _ _ (low_numbers _ _ (low_numbers _ _ (low_nodes _ _ low_header))))
 
-  pub form_faults : (formFault s ≡ 0 → ⊥) → (2 ≤ formFault s) × (formFault s ≤ 5)
-  unfolding formFault
+  pub form_faults : (form_fault s ≡ 0 → ⊥) → (2 ≤ form_fault s) × (form_fault s ≤ 5)
+  unfolding form_fault
   form_faults ne = let h = low_end.other in (omega (arith, ne, h), low_end.most)
 
 -- ---- the tables

@@ -1,5 +1,5 @@
 -- Every page is well-formed UTF-8, so that the archive takes it (document 02, change 1): it is made of texts, newlines and spaces.
-use Rattle.std.specs.Prelude.{◌≡◌, refl, List, [], ◌∷◌, ℕ, zero, suc, ◌≤◌, length}
+use Rattle.std.specs.Prelude.{◌≡◌, List, [], ◌∷◌, ℕ, zero, suc, ◌≤◌, length}
 use Rattle.std.proofs.Common.{sym, subst, arith}
 use Rattle.std.proofs.Math.Logic.{by_cases}
 use Rattle.std.proofs.Math.Option.{Option, none, some}
@@ -28,7 +28,6 @@ use Rattle.machine.specs.Answer.{Answer, paged}
 use Rattle.answer.specs.Answer.{Settings, document_of, Answers, out_of_order, wrong_file, laid_out}
 use Rattle.answer.specs.Page.{RulesPage}
 use Rattle.answer.specs.Ready.{judged_accepted, file_ready}
-use Rattle.answer.specs.Demand.{page_right}
 
 -- every text of a document is well formed
 data WellFormed : Doc → Type 0 where
@@ -103,19 +102,19 @@ text_of t z n =
     (λ h. let e : text_row t n ≡ [] = get_or-eq_default t.texts [] (let l : length t.texts ≤ n = omega (arith, h) in l) in subst (λ (row : List ℕ). Utf8 (word_of_row t.bytes row).bytes) (sym e) no_bytes)
 
 -- what is known of a file that gets a page
-record PageFile (file : List ℕ) : Type 0 where
+pub record PageFile (file : List ℕ) : Type 0 where
   texts : TextsOk (tables_of file).texts (tables_of file).bytes
   ranked : Ranked (document_of file).table
 
 accepted_file : (file : List ℕ) → Bytes file → {n : FileCounts} → Means file (Accepted n) → PageFile file
 accepted_file file z (right f j) = record { texts = (judged_accepted j).texts; ranked = (file_ready file z f j).ranked }
 
-file_of_page : {lent : Type 0} {file : List ℕ} {c : Settings} {b : Bounds} {a : Answer} (r : Rendered) (k : Counts) → Bytes file → Answers lent file c b a → a ≡ paged r k → PageFile file
+pub file_of_page : {lent : Type 0} {file : List ℕ} {c : Settings} {b : Bounds} {a : Answer} (r : Rendered) (k : Counts) → Bytes file → Answers lent file c b a → a ≡ paged r k → PageFile file
 file_of_page r k z (out_of_order n) e = let y : ◌≡◌ {A = ℕ} 0 1 = cc in absurd (omega arith)
 file_of_page r k z (wrong_file n o m) e = let y : ◌≡◌ {A = ℕ} 0 1 = cc in absurd (omega arith)
 file_of_page {file = file} r k z (laid_out o m) e = accepted_file file z m
 
-rules_page_utf8 : (file : List ℕ) (c : Settings) (r : Rendered) → PageFile file → RulesPage file c r → Utf8 r.bytes
+pub rules_page_utf8 : (file : List ℕ) (c : Settings) (r : Rendered) → PageFile file → RulesPage file c r → Utf8 r.bytes
 rules_page_utf8 file c r y p =
     let t = tables_of file in
     let f = p.rule in
@@ -125,7 +124,3 @@ rules_page_utf8 file c r y p =
 -- the rule's page of an accepted file
 pub filed_utf8 : {file : List ℕ} {c : Settings} {r : Rendered} {n : FileCounts} → Bytes file → Means file (Accepted n) → RulesPage file c r → Utf8 r.bytes
 filed_utf8 {file} {c} {r} z m p = rules_page_utf8 file c r (accepted_file file z m) p
-
--- the page of every call
-pub page_utf8 : {lent : Type 0} {file : List ℕ} {c : Settings} {b : Bounds} {r : Rendered} {k : Counts} → Bytes file → Answers lent file c b (paged r k) → Utf8 r.bytes
-page_utf8 {file = file} {c = c} {r = r} {k = k} z a = rules_page_utf8 file c r (file_of_page r k z a refl) (page_right z a)

@@ -11,11 +11,11 @@ use mathlib.Core.List.{Memᴰ as In}
 use Rattle.std.proofs.Math.Decide.{dec_lt}
 use Rattle.std.proofs.Math.ListN.{get_or-eq_default}
 use Rattle.file_tables.specs.Tables.{Tables, kind, first, second, flat, choice_start, choice_length, skipped, node_row}
-use Rattle.file_form.specs.Kinds.{map_right, pairRight}
+use Rattle.file_form.specs.Kinds.{map_right, pair_right}
 use Rattle.file_form.specs.declared.fill.Counts.{Counts}
-use Rattle.file_form.specs.Form.{formFault, tables_of}
-use Rattle.file_encode.specs.Encode.{nodeMap}
-use Rattle.file_encode.specs.Faults.{nodeRight}
+use Rattle.file_form.specs.Form.{form_fault, tables_of}
+use Rattle.file_encode.specs.Encode.{node_map}
+use Rattle.file_encode.specs.Faults.{node_is_right}
 use Rattle.file_encode.specs.Fields.{Bytes}
 use Rattle.file_encode.specs.Maps.{both_true}
 use Rattle.file_encode.specs.NodeTrip.{nodes_right_at}
@@ -233,15 +233,15 @@ judged_accepted (accepted a) = a
 
 -- ---- of a file
 
-known_kind : (m k : ℕ) → pairRight m k ≡ true → k < 12
-unfolding pairRight
+known_kind : (m k : ℕ) → pair_right m k ≡ true → k < 12
+unfolding pair_right
 known_kind m k e = ltb-true k 12 (both_true (ltb k 12) _ e).0
 
-right_kind : (row : List ℕ) → nodeRight row ≡ true → kind row < 12
-unfolding nodeRight
-right_kind row e = known_kind (nodeMap row) (kind row) (both_true (pairRight (nodeMap row) (kind row)) _ (both_true (map_right (nodeMap row)) _ e).1).0
+right_kind : (row : List ℕ) → node_is_right row ≡ true → kind row < 12
+unfolding node_is_right
+right_kind row e = known_kind (node_map row) (kind row) (both_true (pair_right (node_map row) (kind row)) _ (both_true (map_right (node_map row)) _ e).1).0
 
-module _ (s : List ℕ) (z : Bytes s) (f : formFault s ≡ 0) where
+module _ (s : List ℕ) (z : Bytes s) (f : form_fault s ≡ 0) where
   pub file_kinds : Kinds (tables_of s).nodes
   file_kinds = record { known = λ i h. right_kind (get_or (tables_of s).nodes i []) (nodes_right_at (tables_of s).nodes i (tables_right (tables_of s) (encoded s z f).right).nodes h) }
 

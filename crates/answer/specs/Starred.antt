@@ -1,16 +1,13 @@
 -- Document 01, "Checked by hand (★ proved)": its starred cases in one list, in its order, and one theorem that each comes to what document 01 says (11 for two Nests became 25 by document 02, change 3).
 -- Files, pages, numbers and counts are those of the frozen sample; that such an answer is the only one, and its page the rule's, are theorems (Exactly, Demand).
-use Rattle.std.specs.Prelude.{◌≡◌, refl, List, [], ◌∷◌, ℕ, length}
-use Rattle.cost.specs.Cost.{cheap, cheaper}
-use Rattle.layout.specs.Frontier.{covers}
-use Rattle.layout.specs.Frontier.{present as presented}
+use Rattle.std.specs.Prelude.{◌≡◌, List, [], ◌∷◌, ℕ, length}
 use Rattle.file_tables.specs.Tables.{Tables, tables}
 use Rattle.machine.specs.Events.{Counts, no_counts, done, run}
 use Rattle.machine.specs.Model.{PlanEmpty, Made, Scratch, scratch, blank_state, with_builder}
-use Rattle.machine.specs.Solver.{present, present_all, ranked}
+use Rattle.machine.specs.Solver.{present_all, ranked}
 use Rattle.machine.specs.Answer.{Answer, paged, refused}
 use Rattle.answer.specs.Answer.{Settings, Answers}
-use Rattle.answer.specs.Worked.{bytes_of, tried, sound, texted, worked, page_bounds, counted, needing}
+use Rattle.answer.specs.Worked.{page_bounds, counted, needing}
 
 -- ---- the files, a record a line: header, nodes, edges, texts (the first is the space)
 
@@ -134,40 +131,22 @@ node k a b = k ∷ a ∷ b ∷ 0 ∷ 0 ∷ 0 ∷ 0 ∷ 0 ∷ []
 abbrev space : List ℕ
 space = 1 ∷ 1 ∷ 0 ∷ []
 
-abbrev empty_tables : Tables
+abbrev pub empty_tables : Tables
 empty_tables = tables (node 0 0 0 ∷ []) [] [] (space ∷ []) (32 ∷ []) 0 0 0
 
-abbrev ab_tables : Tables
+abbrev pub ab_tables : Tables
 ab_tables = tables (node 1 1 0 ∷ []) [] [] (space ∷ (2 ∷ 2 ∷ 1 ∷ []) ∷ []) (32 ∷ 97 ∷ 98 ∷ []) 0 0 0
 
-abbrev group_tables : Tables
+abbrev pub group_tables : Tables
 group_tables =
     tables (node 1 1 0 ∷ node 2 0 0 ∷ node 1 2 0 ∷ node 1 0 0 ∷ node 4 0 3 ∷ (4 ∷ 3 ∷ 3 ∷ 1 ∷ 4 ∷ 0 ∷ 0 ∷ 0 ∷ []) ∷ node 5 5 0 ∷ [])
     (0 ∷ 3 ∷ 2 ∷ 0 ∷ 1 ∷ 2 ∷ []) [] (space ∷ (2 ∷ 2 ∷ 1 ∷ []) ∷ (2 ∷ 2 ∷ 3 ∷ []) ∷ []) (32 ∷ 97 ∷ 98 ∷ 99 ∷ 100 ∷ []) 0 6 0
 
-abbrev fill_tables : Tables
+abbrev pub fill_tables : Tables
 fill_tables = tables (node 1 1 0 ∷ node 1 2 0 ∷ node 6 0 2 ∷ []) (0 ∷ 1 ∷ []) [] (space ∷ (1 ∷ 1 ∷ 1 ∷ []) ∷ (1 ∷ 1 ∷ 2 ∷ []) ∷ []) (32 ∷ 97 ∷ 98 ∷ []) 0 2 0
 
-abbrev nests_tables : Tables
+abbrev pub nests_tables : Tables
 nests_tables = tables (node 0 0 0 ∷ node 7 4294967295 0 ∷ node 7 1 1 ∷ []) [] [] (space ∷ []) (32 ∷ []) 0 2 0
 
-abbrev line_tables : Tables
+abbrev pub line_tables : Tables
 line_tables = tables (node 3 0 0 ∷ node 7 3 0 ∷ []) [] [] (space ∷ []) (32 ∷ []) 0 1 0
-
-pub all_starred : Every starred
-unfolding bytes_of sound texted tried cheap cheaper covers presented present present_all
-all_starred =
-    worked empty_tables refl refl refl refl refl
-    also worked ab_tables refl refl refl refl refl
-    also worked ab_tables refl refl refl refl refl
-    also worked group_tables refl refl refl refl refl
-    also worked group_tables refl refl refl refl refl
-    also worked group_tables refl refl refl refl refl
-    also refl
-    also worked fill_tables refl refl refl refl refl
-    also worked fill_tables refl refl refl refl refl
-    also worked nests_tables refl refl refl refl refl
-    also worked nests_tables refl refl refl refl refl
-    also worked line_tables refl refl refl refl refl
-    also worked line_tables refl refl refl refl refl
-    also none

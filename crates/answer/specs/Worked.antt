@@ -2,29 +2,27 @@
 use Rattle.std.specs.Prelude.{◌≡◌, refl, Bool, true, false, not, ◌||◌, List, [], ◌∷◌, ℕ, zero, suc, ◌+◌, ◌≤◌, ◌<◌, ltb, leb, eqb, length, get_or}
 use Rattle.std.proofs.Common.{sym, ap, ◌∙◌, subst, arith, ltb-true, leb-true, eqb-true, eq-eqb}
 use Rattle.std.proofs.Math.Option.{some}
-use Rattle.std.proofs.lemmas.Bool.{eqb-false, not_true}
+use Rattle.std.proofs.lemmas.Bool.{eqb-false, not-true}
 use Rattle.cost.specs.Cost.{cheap, cheaper}
 use Rattle.cost.specs.Charge.{charged}
 use Rattle.memo.specs.Entries.{same}
 use Rattle.layout.specs.Frontier.{covers}
 use Rattle.layout.specs.Frontier.{present as presented}
 use Rattle.file_tables.specs.Tables.{Tables, kind, first, second, flat, flat_mark, flat_word, if_marked, choice_length, node_row, width}
-use Rattle.file_form.specs.Kinds.{both, only, named, hasFirst, hasSecond, map_right, pairRight}
+use Rattle.file_form.specs.Kinds.{both, only, named, has_first, has_second, map_right, pair_right}
 use Rattle.file_form.specs.Tests.{both_true, only_true, all_below, at_below}
-use Rattle.file_form.specs.Form.{formFault, tables_of}
-use Rattle.file_encode.specs.Encode.{mapOf, headerMap, encHeader, nodeMap, encNode, textMap, encText, encTexts, each, encode, lengths, Sized}
-use Rattle.file_encode.specs.Faults.{nodeRight, nodesFault, textsFault, headerFault, tablesFault}
+use Rattle.file_form.specs.Form.{form_fault, tables_of}
+use Rattle.file_encode.specs.Encode.{map_of, header_map, enc_header, node_map, enc_node, text_map, enc_text, enc_texts, each, encode, lengths, Sized}
+use Rattle.file_encode.specs.Faults.{node_is_right, nodes_fault, texts_fault, header_fault, tables_fault}
 use Rattle.file_encode.specs.Trips.{reads_back}
 use Rattle.file_utf8.specs.Bytewise.{low, high, well}
 use Rattle.file_utf8.specs.Bytewise.{more as more_bytes}
 use Rattle.file_utf8.specs.Bytewise.{rest as rest_bytes}
-use Rattle.file_utf8.specs.Rows.{utf8_well}
+use Rattle.file_utf8.proofs.Rows.{utf8_well}
 use Rattle.file_checks.specs.References.{Child, of_group, of_nest, of_align, preferred, alternative, of_annotate, of_penalty, Ranged, seq, fill, lengths_of, Named, References}
 use Rattle.file_checks.specs.Texts.{TextsOk, SpaceOk, text_bytes}
 use Rattle.file_checks.specs.Circle.{Refers, child, edge, flat_of_child, Leads, one, more, Circle}
 use Rattle.file_checks.specs.Choice.{ListsRight}
-use Rattle.file_checks.specs.Judged.{Judged, accepted}
-use Rattle.prepare.specs.File.{right}
 use Rattle.machine_input.specs.Reading.{node_of_row, choice_of_row, prepared}
 use Rattle.machine.specs.Events.{Bounds, Counts, no_needs, with_needs}
 use Rattle.machine.specs.Model.{plan_at}
@@ -34,12 +32,12 @@ use Rattle.machine.specs.Solver.{complete_alias, complete_union, present_ranges,
 use Rattle.machine.specs.Solve.{rights, continued, work_off, work_off_all, evaluated, rest, before, least_key, solve_tasks, take_best, solve}
 use Rattle.machine.specs.Materializer.{append_each, visit_plan, materialize, render}
 use Rattle.machine.specs.Answer.{Answer, answer}
-use Rattle.answer.specs.Answer.{Settings, rules_of, Answers, laid_out}
+use Rattle.answer.specs.Answer.{Settings, rules_of}
 
 -- ---- what a case computes: the bytes of tables, and the answer to a call
 
 unfoldable pub bytes_of : Tables → List ℕ
-unfolding mapOf headerMap encHeader nodeMap encNode textMap encText encTexts each encode
+unfolding map_of header_map enc_header node_map enc_node text_map enc_text enc_texts each encode
 bytes_of t = encode t
 
 unfoldable pub tried : Tables → Settings → Bounds → Answer
@@ -134,12 +132,12 @@ tests t = all_below (length t.nodes) (row_sound t)
     ∷ eqb (length t.bytes) (lengths t.texts)
     ∷ ltb t.root (length t.nodes)
     ∷ ltb t.space (length t.texts)
-    ∷ eqb (tablesFault t) 0
+    ∷ eqb (tables_fault t) 0
     ∷ []
 
 -- neither 3 or 4 nor 6, 9 or 10
 unfoldable pub sound : Tables → Bool
-unfolding named hasFirst hasSecond map_right pairRight mapOf nodeMap nodeRight nodesFault textsFault headerFault tablesFault lengths
+unfolding named has_first has_second map_right pair_right map_of node_map node_is_right nodes_fault texts_fault header_fault tables_fault lengths
 sound t = all (tests t)
 
 -- nor 7
@@ -160,7 +158,7 @@ space_bytes t = text_bytes t.texts t.bytes t.space
 abbrev space_tests : Tables → List Bool
 space_tests t = eqb (width (get_or t.texts t.space [])) 1 ∷ eqb (length (space_bytes t)) 1 ∷ eqb (get_or (space_bytes t) 0 0) 32 ∷ []
 
-abbrev spaced : Tables → Bool
+abbrev pub spaced : Tables → Bool
 spaced t = all (space_tests t)
 
 -- neither 7 nor 8
@@ -203,16 +201,16 @@ row_is t i e =
       words = eqb-true _ _ (test 8);
     }
 
-record TablesSound (t : Tables) : Type 0 where
+pub record TablesSound (t : Tables) : Type 0 where
   rows : (i : ℕ) → i < length t.nodes → RowSound t i (node_row t i)
   sized : Sized t
   edges : (k : ℕ) → k < length t.edges → get_or t.edges k 0 < length t.nodes
   no_choices : length t.choices ≡ 0
   root : t.root < length t.nodes
   space : t.space < length t.texts
-  fine : tablesFault t ≡ 0
+  fine : tables_fault t ≡ 0
 
-tables_are : (t : Tables) → sound t ≡ true → TablesSound t
+pub tables_are : (t : Tables) → sound t ≡ true → TablesSound t
 unfolding sound
 tables_are t e =
     let test = all_at (tests t) e in
@@ -244,10 +242,10 @@ texts_right t e =
       each = λ i h.
           let bytes = text_bytes t.texts t.bytes i in
           let b = both_true (all_below (length bytes) (no_ten bytes)) (well bytes) (at_below (length t.texts) (λ j. text_ok (text_bytes t.texts t.bytes j)) e i h) in
-          record { no_newline = record { none = λ k l. eqb-false _ _ (not_true _ (at_below (length bytes) (no_ten bytes) b.0 k l)) }; well_formed = (utf8_well bytes).1 b.1 };
+          record { no_newline = record { none = λ k l. eqb-false _ _ (not-true _ (at_below (length bytes) (no_ten bytes) b.0 k l)) }; well_formed = (utf8_well bytes).1 b.1 };
     }
 
-space_is : (t : Tables) → spaced t ≡ true → SpaceOk t.texts t.bytes t.space
+pub space_is : (t : Tables) → spaced t ≡ true → SpaceOk t.texts t.bytes t.space
 space_is t e =
     let test = all_at (space_tests t) e in
     record { wide = eqb-true _ _ (test 0); byte = only_byte (space_bytes t) (eqb-true _ _ (test 1)) (eqb-true _ _ (test 2)) }
@@ -279,7 +277,7 @@ module _ (t : Tables) (z : TablesSound t) where
   leads_below i j h (one r) = refers_below i j h r
   leads_below i j h (more {j = k} w r) = let l = leads_below i k h w in omega (arith, refers_below k j (omega arith) r)
 
-  no_circle : Circle t.nodes t.edges → ⊥
+  pub no_circle : Circle t.nodes t.edges → ⊥
   no_circle c = omega (arith, leads_below c.node c.node c.inside c.back)
 
   row_named : (i : ℕ) → i < length t.nodes → Named (lengths_of t) (node_row t i)
@@ -294,7 +292,7 @@ module _ (t : Tables) (z : TablesSound t) where
     choice_range = λ ne. absurd (ne (z.rows i h).no_list);
   }
 
-  references : References t
+  pub references : References t
   references = record {
     root = z.root;
     space = z.space;
@@ -303,33 +301,16 @@ module _ (t : Tables) (z : TablesSound t) where
     nodes = record { each = row_named };
   }
 
-  lists : ListsRight t.nodes t.choices
+  pub lists : ListsRight t.nodes t.choices
   lists = record { each = λ i h ne. absurd (ne (z.rows i h).no_list) }
 
 -- ---- the answer to a call
 
 -- the file of the tables is read back
-pub file_read : (t : Tables) (file : List ℕ) → bytes_of t ≡ file → sound t ≡ true → (formFault file ≡ 0) × (tables_of file ≡ t)
+pub file_read : (t : Tables) (file : List ℕ) → bytes_of t ≡ file → sound t ≡ true → (form_fault file ≡ 0) × (tables_of file ≡ t)
 unfolding bytes_of
-file_read t file e s = let z = tables_are t s in let r = reads_back t z.sized z.fine in (ap formFault (sym e) ∙ r.fine, ap tables_of (sym e) ∙ r.tables)
+file_read t file e s = let z = tables_are t s in let r = reads_back t z.sized z.fine in (ap form_fault (sym e) ∙ r.fine, ap tables_of (sym e) ∙ r.tables)
 
 -- nor is it 6
 pub references_right : (t : Tables) → sound t ≡ true → References t
 references_right t s = references t (tables_are t s)
-
--- the file is accepted, and the answer to a call is that of solver and materializer on the tables
-pub worked :
-    (t : Tables) {file : List ℕ} {c : Settings} {b : Bounds} {a : Answer}
-    → bytes_of t ≡ file → sound t ≡ true → texts_fine t ≡ true → ordered c ≡ true → tried t c b ≡ a → Answers (Unit {0}) file c b a
-unfolding tried
-worked t {file} {c} {b} e s p o q =
-    let r = file_read t file e s in
-    let z = tables_are t s in
-    let x = both_true (texted t) (spaced t) p in
-    let j = accepted (record { references = references t z; texts = texts_right t x.0; space = space_is t x.1; no_circle = no_circle t z; lists = lists t z }) in
-    let w = both_true (leb 1 c.width) (both (leb c.policy 1) (both (leb 1 c.rule) (leb c.rule 2))) o in
-    let u = both_true (leb c.policy 1) (both (leb 1 c.rule) (leb c.rule 2)) w.1 in
-    let v = both_true (leb 1 c.rule) (leb c.rule 2) u.1 in
-    subst (λ (x : Answer). Answers (Unit {0}) file c b x) q
-    (subst (λ (x : Tables). Answers (Unit {0}) file c b (answer (rules_of c) (prepared x) b)) r.1
-    (laid_out (record { wide = leb-true _ _ w.0; policy_known = leb-true _ _ u.0; rule_known = (leb-true _ _ v.0, leb-true _ _ v.1); lent_enough = tt }) (right r.0 (subst (λ (x : Tables). Judged x 0) (sym r.1) j))))

@@ -1,5 +1,7 @@
 // The frontier's tree: an AVL tree of columns in one lent slice of words, fourteen words a slot. It reads the column of a slot and owns its
 // left link, its right link and its height; the other words are the caller's.
+#![tactic(auto)]
+
 ghost use Rattle.std.specs.Prelude.{◌≡◌, suc, max, ◌+◌, ◌*◌, ◌<◌};
 ghost use Rattle.avl.specs.Mem.{word, put, At};
 ghost use Rattle.avl.specs.Tree.{ht, rot_l, rot_r, tilt_l, tilt_r, bal, ins, join, Seen};
@@ -192,7 +194,7 @@ pub fn insert(frontier: &mut [u64], root: u64, s: u64) -> u64
 }
 
 // What a tree is without its least slot, and that slot.
-#[derive(Drop)]
+#[derive(Clone, Copy)]
 struct Detached {
     rest: u64,
     least: u64,
@@ -245,7 +247,7 @@ pub fn clear(frontier: &mut [u64], s: u64)
 }
 
 // What a tree is without a slot, and that slot.
-#[derive(Drop)]
+#[derive(Clone, Copy)]
 pub struct Removed {
     pub root: u64,
     pub slot: u64,
@@ -282,7 +284,7 @@ pub fn remove(frontier: &mut [u64], root: u64, column: u64) -> Removed
 }
 
 // A link as an answer: a slot, or none.
-#[derive(Drop)]
+#[derive(Clone, Copy)]
 pub enum Link {
     Nothing,
     Slot(u64),
@@ -300,7 +302,7 @@ pub fn linked(x: u64) -> Link
 
 // The words of a search, NIL for none: the slot of the column; of the last lower column on the way there, which is the nearest where the
 // column is not there; and of the least column at it or above.
-#[derive(Drop)]
+#[derive(Clone, Copy)]
 pub struct Way {
     pub same: u64,
     pub before: u64,

@@ -8,7 +8,8 @@ use Rattle.prepare.specs.File.{Means}
 use Rattle.machine.specs.Events.{Bounds, no_counts}
 use Rattle.machine.specs.Answer.{Answer, paged, refused}
 use Rattle.answer.specs.Answer.{wrong_file}
-use Rattle.answer.specs.Worked.{bytes_of, sound, texted, tried, counted, needing, worked}
+use Rattle.answer.specs.Worked.{bytes_of, sound, texted, tried, counted, needing}
+use Rattle.answer.proofs.Worked.{worked}
 use Rattle.desks.specs.declared.Desks.{Desks}
 use Rattle.desks.specs.Served.{served}
 use Rattle.desks.specs.Cases.{at_80, a_file, a_tables, a_page, stopped, two}

@@ -1,7 +1,7 @@
 -- Each batch has one outcome: the number, the answers, the bytes, the spans and the record.
 use Rattle.std.specs.Prelude.{◌≡◌, refl, List, [], ◌++◌, map, ℕ, ◌+◌, ◌*◌, ◌≤◌, ◌<◌, ◌^◌, length, get_or, take, drop}
 use Rattle.std.proofs.Common.{sym, ap, ap₂, subst, ◌∙◌, arith, length-take-le}
-use Rattle.std.proofs.lemmas.List.{map_append, length-map}
+use Rattle.std.proofs.lemmas.List.{map-append, length-map}
 use Rattle.cost.specs.Cost.{Cost}
 use Rattle.cost.specs.Value.{value}
 use Rattle.cost.specs.declared.ConsumerCost.{ConsumerCost}
@@ -120,7 +120,7 @@ page_same (Refused n f k) out out' rows rows' t = (refl, refl)
 
 rows_front : (m s : ℕ) (was is : List Row) → Front m (drop s was) is → map span_of is ≡ map span_of (take m is) ++ drop m (drop s (map span_of was))
 rows_front m s was is f =
-    ap (λ (x : List Row). map span_of x) f.past ∙ map_append span_of (take m is) (drop m (drop s was))
+    ap (λ (x : List Row). map span_of x) f.past ∙ map-append span_of (take m is) (drop m (drop s was))
     ∙ ap (λ (x : List Span). map span_of (take m is) ++ x) (map_drop span_of m (drop s was) ∙ ap (λ (x : List Span). drop m x) (map_drop span_of s was))
 
 module _ {d : ℕ} {o : RenderOptions} {b : Bounds} {l : Lengths} where
@@ -160,9 +160,9 @@ module _ {d : ℕ} {o : RenderOptions} {b : Bounds} {l : Lengths} where
       subst (λ (X : Batch). Same X H) (sym h.after) (subst (λ (X : Batch). Same (next d a h.output h.rows F) X) (sym g.after) (record {
         shared = rw (s.shared, e) refl;
         output = rw (s.bytes, s.output, parts) refl;
-        rows = map_append span_of (take F.spans F.rows) h.rows
+        rows = map-append span_of (take F.spans F.rows) h.rows
             ∙ ap₂ (λ (x y : List Span). x ++ y) before marks
-            ∙ sym (map_append span_of (take E.spans E.rows) g.rows);
+            ∙ sym (map-append span_of (take E.spans E.rows) g.rows);
         answers = rw (s.answers, s.filed, e) refl;
         bytes = rw (s.bytes, e) refl;
         spans = rw (s.spans, e) refl;

@@ -1,5 +1,5 @@
 -- A batch is its documents' single calls in the same order: each on what is free, with the record of the one before.
-use Rattle.std.proofs.Common.{sym, subst, append_nil, append_assoc}
+use Rattle.std.proofs.Common.{sym, subst, append-nil, append_assoc}
 use Rattle.std.specs.Prelude.{List, [], ◌∷◌, ◌++◌, ℕ}
 use Rattle.solve_workspace.specs.declared.Bounds.{Bounds}
 use Rattle.solve_workspace.specs.declared.RenderOptions.{RenderOptions}
@@ -21,7 +21,7 @@ module _ (d : ℕ) (o : RenderOptions) (b : Bounds) (l : Lengths) where
 module _ {d : ℕ} {o : RenderOptions} {b : Bounds} {l : Lengths} where
   -- a batch of xs and then that of ys on what is left is the batch of xs ++ ys
   pub joined : {xs ys : List (List ℕ)} {F G H : Batch} → Filed d o b l xs F G → Filed d o b l ys G H → Filed d o b l (xs ++ ys) F H
-  joined {xs} {F = F} {H = H} f none = subst (λ (zs : List (List ℕ)). Filed d o b l zs F H) (sym (append_nil xs)) f
+  joined {xs} {F = F} {H = H} f none = subst (λ (zs : List (List ℕ)). Filed d o b l zs F H) (sym (append-nil xs)) f
   joined {xs} {F = F} {H = H} f (more {files = ys} {file = y} g h) = subst (λ (zs : List (List ℕ)). Filed d o b l zs F H) (append_assoc xs ys (y ∷ [])) (more (joined f g) h)
 
   last_call : {files : List (List ℕ)} {file : List ℕ} {F G H : Batch} → Singles d o b l files F G → One d o b l file G H → Singles d o b l (files ++ file ∷ []) F H

@@ -1,4 +1,6 @@
 // A shift's files in one go (document 02, change 9), as far as it goes by value: whether a batch may be tried, what is still free, and what a document leaves of it.
+#![tactic(auto)]
+
 ghost use Rattle.std.specs.Prelude.{◌≡◌, ◌+◌, ◌≤◌, ◌<◌, ◌^◌, min, length};
 ghost use Rattle.file_checks.specs.Told.{Told};
 ghost use Rattle.desks.specs.Desks.{remaining};
@@ -15,7 +17,7 @@ use solve_workspace::{Bounds, RenderOptions};
 use stats::SolveStats;
 
 // How far a batch has come: where the next document's bytes start, how many documents were tried, which bytes and spans their pages have together, and their work. Of the counts the last row of answers tells.
-#[derive(Drop)]
+#[derive(Clone, Copy)]
 pub struct Progress {
     pub at: usize,
     pub filed: usize,
@@ -25,7 +27,7 @@ pub struct Progress {
 }
 
 // A batch's answer: its own number, 0 where each document was tried; how many were; what their pages take; and the record after it.
-#[derive(Drop)]
+#[derive(Clone, Copy)]
 pub struct FiledAll {
     pub number: u32,
     pub tried: usize,

@@ -1,6 +1,6 @@
 -- One document, on the parts that are free.
 use mathlib.Core.Path.{◌≡◌, refl, sym, ap, subst, ◌∙◌}
-use mathlib.Core.List.{List, [], ◌++◌, append_nil}
+use mathlib.Core.List.{List, [], ◌++◌, append-nil}
 use Prim.Native.Nat.{ℕ, suc, ◌+◌, ◌-◌, ◌≤◌, ◌<◌, ◌^◌}
 use native.Mathlib.Omega.{arith}
 use lib.ListN.{length, get_or, take, drop, set, length-drop, length-set, drop_of_length-le}
@@ -47,7 +47,7 @@ module _ {A : Type 0} (n : ℕ) (was : List A) where
   put_back : (p : List A) → with_part n was p ≡ take n was ++ p
   put_back p =
       let e : drop (length was - n) (drop n was) ≡ [] = drop_of_length-le (drop n was) {i = length was - n} (omega (arith, length-drop n was)) in
-      ap (λ (z : List A). take n was ++ (p ++ z)) e ∙ ap (λ (z : List A). take n was ++ z) (append_nil p)
+      ap (λ (z : List A). take n was ++ (p ++ z)) e ∙ ap (λ (z : List A). take n was ++ z) (append-nil p)
 
 -- ---- the record
 

@@ -1,6 +1,8 @@
 // A shift's files in one go (document 02, change 9): each document by a single call on what is free.
+#![tactic(auto)]
+
 ghost use Rattle.std.specs.Prelude.{◌<◌, length};
-ghost use Rattle.render.specs.Call.{lengths as lent-lengths};
+ghost use Rattle.render.specs.Call.{lengths as lent_lengths};
 ghost use Rattle.batch.specs.Batched.{Batched, begun, ended};
 ghost use Rattle.batch.specs.Values.{beginning};
 ghost use Rattle.batch_call.specs.Going.{Ready, Tried, Came};
@@ -41,7 +43,7 @@ fn one_document(
     answers: &mut [[u64; 26]],
 ) -> Progress
     requires { Ready desk desks b files.now lengths.now p output.old spans.old answers.old × (p.filed < length lengths.now) }
-    ensures { Tried desk desks options b (lent-lengths nodes.old edges.old choices.old texts.old bytes.old tasks.old results.old pending.old index.old entries.old kept.old frontier.old plans.old visit.old depth.old output.old spans.old) files.now lengths.now p output.old output.new spans.old spans.new answers.old answers.new result }
+    ensures { Tried desk desks options b (lent_lengths nodes.old edges.old choices.old texts.old bytes.old tasks.old results.old pending.old index.old entries.old kept.old frontier.old plans.old visit.old depth.old output.old spans.old) files.now lengths.now p output.old output.new spans.old spans.new answers.old answers.new result }
 {
     let at = p.filed;
     let from = p.at;
@@ -107,7 +109,7 @@ fn file_documents(
     answers: &mut [[u64; 26]],
 ) -> Progress
     requires { Ready desk desks b files.now lengths.now beginning output.old spans.old answers.old }
-    ensures { Came desk desks options b (lent-lengths nodes.old edges.old choices.old texts.old bytes.old tasks.old results.old pending.old index.old entries.old kept.old frontier.old plans.old visit.old depth.old output.old spans.old) files.now lengths.now (length lengths.now) output.old output.new spans.old spans.new answers.old answers.new result }
+    ensures { Came desk desks options b (lent_lengths nodes.old edges.old choices.old texts.old bytes.old tasks.old results.old pending.old index.old entries.old kept.old frontier.old plans.old visit.old depth.old output.old spans.old) files.now lengths.now (length lengths.now) output.old output.new spans.old spans.new answers.old answers.new result }
 {
     let mut p = begin();
     while p.filed < lengths.len() {
@@ -147,7 +149,7 @@ pub fn file_all(
     spans: &mut [[u64; 4]],
     answers: &mut [[u64; 26]],
 ) -> FiledAll
-    ensures { Batched desk options b (lent-lengths nodes.old edges.old choices.old texts.old bytes.old tasks.old results.old pending.old index.old entries.old kept.old frontier.old plans.old visit.old depth.old output.old spans.old) files.now lengths.now (begun shared output.old spans.old answers.old) result.number (ended result output.new spans.new answers.new) }
+    ensures { Batched desk options b (lent_lengths nodes.old edges.old choices.old texts.old bytes.old tasks.old results.old pending.old index.old entries.old kept.old frontier.old plans.old visit.old depth.old output.old spans.old) files.now lengths.now (begun shared output.old spans.old answers.old) result.number (ended result output.new spans.new answers.new) }
 {
     let l = Lengths {
         nodes: nodes.len(),

@@ -1,4 +1,6 @@
 // A call's answer in words, and settings, sizes and limits from words: what the library hands over and is handed.
+#![tactic(auto)]
+
 ghost use Rattle.std.specs.Prelude.{◌≡◌, get_or};
 ghost use Rattle.call_words.specs.Words.{words, options, bounds};
 

@@ -1,5 +1,5 @@
 -- Numbers of two digits at a base b: sums and order. Over any base, since the base in use is too large for omega's own numbers.
-use Rattle.std.proofs.Common.{◌≡◌, ℕ, ◌+◌, ◌-◌, ◌*◌, ◌<◌, ◌≤◌, ap, mul-le-mul_right, add-mul, one-mul, arith}
+use Rattle.std.proofs.Common.{◌≡◌, ℕ, ◌+◌, ◌*◌, ◌<◌, ◌≤◌, ap, mul-le-mul_right, add-mul, one-mul, arith}
 
 module _ (b : ℕ) where
   next : (h : ℕ) → (h + 1) * b ≡ h * b + b

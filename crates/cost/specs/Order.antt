@@ -1,8 +1,8 @@
 -- The order of costs as facts, and its laws.
-use Rattle.std.specs.Prelude.{◌≡◌, ◌<◌, ◌≤◌, Bool, true, false, ◌&&◌, ◌||◌, ◌⊎◌, ◌==◌, nat_le, nat_lt, refl}
-use Rattle.std.proofs.Common.{⊎_elim, arith, leb-true, leb-false, ltb-true, ltb-false, eqb-true, le-leb, eq-eqb}
+use Rattle.std.specs.Prelude.{◌≡◌, ◌<◌, ◌≤◌, Bool, true, false, ◌&&◌, ◌||◌, ◌==◌, nat_le, nat_lt, refl}
+use Rattle.std.proofs.Common.{⊎_elim, arith, leb-true, ltb-true, ltb-false, eqb-true, le-leb, eq-eqb}
 use Rattle.cost.specs.Cost.{Cost, add, cheap}
-use Rattle.cost.specs.Logic.{no_both, or_cases, and_left, and_right, and_both}
+use Rattle.cost.specs.Logic.{or_cases, and_left, and_right, and_both}
 
 -- as much overflow at most and, where exactly as much, as much burden at most
 pub record Cheap (a b : Cost) : Type 0 where
@@ -35,14 +35,3 @@ is_cheap a b h = go (nat_lt a.overflow b.overflow) refl
     go false e =
         let q : a.overflow ≡ b.overflow = omega (arith, ltb-false a.overflow b.overflow e, h.overflow_le) in
         and_both (a.overflow == b.overflow) (nat_le a.burden b.burden) (eq-eqb a.overflow b.overflow q) (le-leb a.burden b.burden (h.burden_le q))
-
-pub not_cheap : (a b : Cost) → cheap a b ≡ false → Cheap b a
-not_cheap a b e = record { overflow_le = first (nat_le b.overflow a.overflow) refl; burden_le = λ q. second q (nat_le b.burden a.burden) refl }
-  where
-    first : (t : Bool) → nat_le b.overflow a.overflow ≡ t → b.overflow ≤ a.overflow
-    first true f = leb-true _ _ f
-    first false f = no_both (cheap a b) (is_cheap a b (record { overflow_le = omega (arith, leb-false b.overflow a.overflow f); burden_le = λ g. omega (arith, leb-false b.overflow a.overflow f) })) e
-
-    second : b.overflow ≡ a.overflow → (t : Bool) → nat_le b.burden a.burden ≡ t → b.burden ≤ a.burden
-    second q true f = leb-true _ _ f
-    second q false f = no_both (cheap a b) (is_cheap a b (record { overflow_le = omega arith; burden_le = λ g. omega (arith, leb-false b.burden a.burden f) })) e

@@ -1,6 +1,6 @@
 -- Any charge that is 0 up to the width and rises from there by steps that never shrink: smaller columns are never dearer.
 use Rattle.std.specs.Prelude.{◌≡◌, ℕ, zero, suc, ◌+◌, ◌-◌, ◌*◌, ◌^◌, ◌<◌, ◌≤◌, Bool, true, false, cond, ◌==◌}
-use Rattle.std.proofs.Common.{ap, add-suc, add_zero, mul-le-mul, mul-add, add-mul, mul_comm, arith}
+use Rattle.std.proofs.Common.{ap, add-suc, add-zero, mul-le-mul, mul-add, add-mul, mul_comm, arith}
 use Rattle.cost.specs.Charge.{over, squared, charged}
 
 pub record Rising (width : ℕ) (charge : ℕ → ℕ) : Type 0 where
@@ -10,15 +10,15 @@ pub record Rising (width : ℕ) (charge : ℕ → ℕ) : Type 0 where
 
 module _ {w : ℕ} {g : ℕ → ℕ} (h : Rising w g) where
   grows : (a d : ℕ) → g a ≤ g (a + d)
-  grows a zero = rw (add_zero a) (omega arith)
+  grows a zero = rw (add-zero a) (omega arith)
   grows a (suc d) = rw (add-suc a d) (omega (arith, grows a d, h.up (a + d)))
 
   one_step : (a d : ℕ) → g (suc a) + g (a + d) ≤ g (suc (a + d)) + g a
-  one_step a zero = rw (add_zero a) (omega arith)
+  one_step a zero = rw (add-zero a) (omega arith)
   one_step a (suc d) = rw (add-suc a d) (omega (arith, one_step a d, h.more (a + d)))
 
   many : (a d k : ℕ) → g (a + k) + g (a + d) ≤ g (a + d + k) + g a
-  many a d zero = rw (add_zero a, add_zero (a + d)) (omega arith)
+  many a d zero = rw (add-zero a, add-zero (a + d)) (omega arith)
   many a d (suc k) =
       let e : a + d + k ≡ a + k + d = omega arith in
       rw (add-suc a k, add-suc (a + d) k) (omega (arith, many a d k, one_step (a + k) d, ap g e, ap (λ (z : ℕ). g (suc z)) e))

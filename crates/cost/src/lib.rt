@@ -1,11 +1,13 @@
 // The cost of a layout, overflow and then burden: what text, newlines and penalties cost, sums that may have no place, the order (from laidout's cost.rs).
+#![tactic(auto)]
+
 ghost use Rattle.std.specs.Prelude.{◌≡◌, ◌+◌, ◌-◌, ◌*◌, ◌^◌, ◌<◌};
 ghost use Rattle.cost.specs.Cost.{add, cheap, cheaper};
 ghost use Rattle.cost.specs.Charge.{over, charged, newline_cost, penalty_cost};
 ghost use Rattle.cost.specs.Value.{halves, value, halved, halved_within, cost, within, text_outcome, newline_outcome, outcome, domain_number};
 
 // Overflow below 2^128 in two halves, burden below 2^64.
-#[derive(Drop)]
+#[derive(Clone, Copy)]
 pub struct ConsumerCost {
     pub overflow_high: u64,
     pub overflow_low: u64,
@@ -13,7 +15,7 @@ pub struct ConsumerCost {
 }
 
 // What is past its width.
-#[derive(Drop)]
+#[derive(Clone, Copy)]
 pub enum Reason {
     Column,
     Indent,
@@ -34,14 +36,14 @@ pub fn domain_number(reason: Reason) -> u32
 }
 
 // A cost, or what has no place in its width.
-#[derive(Drop)]
+#[derive(Clone, Copy)]
 pub enum Costed {
     Cost(ConsumerCost),
     Failed(Reason),
 }
 
 // The settings that costs depend on.
-#[derive(Drop)]
+#[derive(Clone, Copy)]
 pub struct PreparedConsumerCostModel {
     pub width: u32,
     pub newline_cost: u32,
@@ -71,7 +73,7 @@ impl PreparedConsumerCostModel {
 }
 
 // Two halves, or no place for the sum.
-#[derive(Drop)]
+#[derive(Clone, Copy)]
 pub enum Sum {
     Halves(u64, u64),
     Past,

@@ -1,4 +1,6 @@
 // A call on one file for a desk (document 02, change 8). Order (1) and the desk (28) are settled by value before anything is lent; then the call itself, its work held to what the desk may still do.
+#![tactic(auto)]
+
 ghost use Rattle.std.specs.Prelude.{◌≡◌};
 ghost use Rattle.stats.specs.Counts.{none_counted};
 ghost use Rattle.render.specs.declared.page.Rendered.TheVariants.{Refused};

@@ -1,2 +1,4 @@
 mod Counting
 pub mod Calling
+pub mod Isolation
+pub mod Layer

@@ -5,7 +5,8 @@ use Rattle.file_tables.specs.Tables.{Tables, tables}
 use Rattle.machine.specs.Events.{Bounds, no_counts}
 use Rattle.machine.specs.Answer.{Answer, paged, refused}
 use Rattle.answer.specs.Answer.{Settings}
-use Rattle.answer.specs.Worked.{bytes_of, sound, texted, tried, page_bounds, counted, needing, worked}
+use Rattle.answer.specs.Worked.{bytes_of, sound, texted, tried, page_bounds, counted, needing}
+use Rattle.answer.proofs.Worked.{worked}
 use Rattle.desks.specs.declared.Desks.{Desks}
 use Rattle.desks.specs.Served.{Served, no_desk, served}
 use Rattle.desks.specs.Kinds.{single}

@@ -9,10 +9,11 @@ use Rattle.answer.specs.Demand.{same_page, needs_within, just_answered, less_ref
 use Rattle.report.specs.Report.{Report, Step}
 use Rattle.report.specs.Answers.{Solved, inserted, removed, Tested, too_dear, no_bytes, no_spans, fits, StepAnswers, no_place, full, row_refused, tested}
 use Rattle.report.specs.Answers.{out_of_order as step_unordered}
-use Rattle.report.specs.Exactly.{Both, step_one}
-use Rattle.report.specs.Same.{larger_step}
-use Rattle.report.specs.Sizes.{just_step, less_step}
-use Rattle.report.specs.Sizes.{needs_within as step_within}
+use Rattle.report.specs.Exactly.{Both}
+use Rattle.report.proofs.Exactly.{step_one}
+use Rattle.report.proofs.Same.{larger_step}
+use Rattle.report.proofs.Sizes.{just_step, less_step}
+use Rattle.report.proofs.Sizes.{needs_within as step_within}
 use Rattle.desks.specs.Desks.{work}
 use Rattle.desks.specs.Served.{Left, left, Steady}
 use Rattle.desks.specs.Work.{work_within}

@@ -42,12 +42,6 @@ module _ {S : Type 0} {call : Bounds → Answer → S → Type 0} {X : S} where
   came (no_desk m h) e = let z : ◌≡◌ {A = ℕ} 0 1 = cc in absurd (omega arith)
   came {D = D} {d = d} {b = b} {Z = Z} (served m h c) e = subst (λ (a : Answer). call (allowed D d b) a Z) e c
 
-  -- the record after a call is the record before with its work charged
-  pub record_after : {lent : Type 0} {D : Desks} {d : ℕ} {b : Bounds} {a : Answer} {Z : S} {D' : Desks} → Served lent D d call b X a Z D' → D' ≡ charged D d (work a)
-  record_after {D = D} {d = d} (out_of_order n) = sym (charged_nothing D d)
-  record_after {D = D} {d = d} (no_desk l h) = sym (charged_nothing D d)
-  record_after (served l h c) = refl
-
   -- where what 1 asks is there, nothing is left of it
   pub lent_unit : {lent : Type 0} {D : Desks} {d : ℕ} {b : Bounds} {a : Answer} {Z : S} {D' : Desks} → lent → Served lent D d call b X a Z D' → Served (Unit {0}) D d call b X a Z D'
   lent_unit l (out_of_order n) = absurd (n l)

@@ -7,13 +7,15 @@ use Rattle.machine.specs.Events.{Bounds, Counts}
 use Rattle.machine.specs.Materializer.{Rendered}
 use Rattle.machine.specs.Answer.{Answer, paged, refused}
 use Rattle.answer.specs.Answer.{Settings, Answers, out_of_order, wrong_file, laid_out, rules_of, document_of}
-use Rattle.answer.specs.Exactly.{answers_one, answered}
+use Rattle.answer.specs.Exactly.{answers_one}
+use Rattle.answer.proofs.Exactly.{answered}
 use Rattle.report.specs.Report.{Report, Step}
 use Rattle.report.specs.Answers.{Admitted, Solved, inserted, removed, Tested, too_dear, no_bytes, no_spans, fits, StepAnswers, row_refused, tested}
-use Rattle.report.specs.Exactly.{Both, step_one, stepped}
+use Rattle.report.specs.Exactly.{Both}
+use Rattle.report.proofs.Exactly.{step_one, stepped}
 use Rattle.report.specs.Same.{came}
 use Rattle.desks.specs.declared.Desks.{Desks}
-use Rattle.desks.specs.Desks.{last_desk, at_most, allowed, work}
+use Rattle.desks.specs.Desks.{last_desk, at_most, allowed}
 use Rattle.desks.specs.Served.{Served, out_of_order as unordered, no_desk, served}
 use Rattle.desks.specs.Work.{SpentAt, work_met, work_missed}
 use Rattle.desks.specs.Kinds.{single, step, tested_spends}

@@ -10,7 +10,8 @@ use Rattle.machine.specs.Events.{Bounds, Counts, Kind, size, no_counts, passes, 
 use Rattle.machine.specs.Events.{stack, memo, kept, frontier, plans, visit, depth, output, spans}
 use Rattle.machine.specs.Events.{Event, Need, Within, Hit, Miss, Generated, Visit, Pruned, Peak, Entries, PlanNodes, Never}
 use Rattle.machine.specs.Programs.{Passes, counts_after, done_passes, done_is}
-use Rattle.machine.specs.Enough.{Holds, works_counted, necessary, enough}
+use Rattle.machine.specs.Enough.{Holds}
+use Rattle.machine.proofs.Enough.{works_counted, necessary, enough}
 use Rattle.machine.specs.Enough.{work as works_in}
 use Rattle.machine.specs.Model.{Prepared}
 use Rattle.machine.specs.Materializer.{Rendered, render}
@@ -92,11 +93,11 @@ module _ {A : Type 0} (b : Bounds) (n : ℕ) where
 
   misses : (k : Counts) (m : Prog A) → Passes b k m → k.work_items ≤ n → n < (counts_after k m).work_items → Missed n (run (at_most n b) k m)
   misses k (ret a) h i l = absurd (omega (arith, i, l))
-  misses k (emit (Need x r) p) h i l = further k (Need x r) p (ap (λ (z : ℕ). leb r z) (at_most_size n b x) ∙ h.0) (misses _ p h.1 i l)
-  misses k (emit (Within r q) p) h i l = further k (Within r q) p h.0 (misses _ p h.1 i l)
-  misses k (emit Hit p) h i l = tries k Hit p refl refl (λ q. lt-ltb _ _ q) (λ q. le-ltb _ _ q) i (ltb-true k.work_items b.work_limit h.0) (λ q. misses _ p h.1 (omega (arith, q)) l)
-  misses k (emit Miss p) h i l = tries k Miss p refl refl (λ q. lt-ltb _ _ q) (λ q. le-ltb _ _ q) i (ltb-true k.work_items b.work_limit h.0) (λ q. misses _ p h.1 (omega (arith, q)) l)
-  misses k (emit Generated p) h i l = tries k Generated p refl refl (λ q. lt-ltb _ _ q) (λ q. le-ltb _ _ q) i (ltb-true k.work_items b.work_limit h.0) (λ q. misses _ p h.1 (omega (arith, q)) l)
+  misses k (emit (Need x r) p) h i l = further k (Need x r) p (ap (λ (z : ℕ). leb r z) (at_most_size n b x) ∙ h.0) (misses (counted k (Need x r)) p h.1 i l)
+  misses k (emit (Within r q) p) h i l = further k (Within r q) p h.0 (misses (counted k (Within r q)) p h.1 i l)
+  misses k (emit Hit p) h i l = tries k Hit p refl refl (λ q. lt-ltb _ _ q) (λ q. le-ltb _ _ q) i (ltb-true k.work_items b.work_limit h.0) (λ q. misses (counted k Hit) p h.1 (omega (arith, q)) l)
+  misses k (emit Miss p) h i l = tries k Miss p refl refl (λ q. lt-ltb _ _ q) (λ q. le-ltb _ _ q) i (ltb-true k.work_items b.work_limit h.0) (λ q. misses (counted k Miss) p h.1 (omega (arith, q)) l)
+  misses k (emit Generated p) h i l = tries k Generated p refl refl (λ q. lt-ltb _ _ q) (λ q. le-ltb _ _ q) i (ltb-true k.work_items b.work_limit h.0) (λ q. misses (counted k Generated) p h.1 (omega (arith, q)) l)
   misses k (emit Visit p) h i l = further k Visit p h.0 (misses _ p h.1 i l)
   misses k (emit (Pruned r) p) h i l = further k (Pruned r) p refl (misses _ p h.1 i l)
   misses k (emit (Peak r) p) h i l = further k (Peak r) p refl (misses _ p h.1 i l)

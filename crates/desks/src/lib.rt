@@ -1,4 +1,6 @@
 // Work counted by desk (document 02, change 8): the shared record's allowances and spent counts, by value.
+#![tactic(auto)]
+
 ghost use Rattle.std.specs.Prelude.{◌≡◌, ◌≤◌};
 ghost use Rattle.desks.specs.Desks.{remaining, charged, gate_number};
 ghost use Rattle.desks.specs.Lent.{within, work_in, charging, settled};
@@ -8,21 +10,21 @@ use solve_workspace::Bounds;
 use stats::SolveStats;
 
 // For each of the desks 0 to 7 how much work it may do, and how much it has done. A caller sets the allowances; no call alters one.
-#[derive(Drop)]
+#[derive(Clone, Copy)]
 pub struct Desks {
     pub allowance: [u64; 8],
     pub spent: [u64; 8],
 }
 
 // The record that a caller lends for the counts, with what is kept between calls.
-#[derive(Drop)]
+#[derive(Clone, Copy)]
 pub struct SharedRecord {
     pub stats: SolveStats,
     pub desks: Desks,
 }
 
 // An answer, and the desks after it.
-#[derive(Drop)]
+#[derive(Clone, Copy)]
 pub struct DeskAnswer {
     pub answer: Rendered,
     pub desks: Desks,

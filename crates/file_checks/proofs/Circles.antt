@@ -11,7 +11,7 @@ use lib.ListN.{length, get_or, take, drop, set, length-set, length-drop, drop_of
 use lib.Seq.{length-take-le, get_or-take, get_or-set_same, get_or-set_other, drop-cons, drop-set-lt}
 use Rattle.file_checks.specs.Told.{Told}
 use Rattle.file_checks.specs.Circle.{Refers, Leads, one, more, Circle}
-use Rattle.file_checks.specs.Search.{degree, target, node, taken, Row, Way, none, start, onward, Stands, here, later, Walking, unfinished, turns, Went, TurnCase, Turned, Searched}
+use Rattle.file_checks.specs.Search.{degree, target, node, taken, Row, Way, none, start, onward, Stands, here, later, Walking, unfinished, Went, TurnCase, Turned, Searched}
 use Rattle.file_checks.specs.Descent.{Ends, ends}
 use Rattle.file_checks.specs.declared.circle.Turn.{Turn}
 use Rattle.file_checks.specs.declared.circle.Turn.TheVariants.{Round, At}

@@ -24,11 +24,11 @@ unfolding zeros
 length_zeros zero = refl
 length_zeros (suc n) = ap suc (length_zeros n)
 
-getD_zeros : (n x : ℕ) → get_or (zeros n) x 0 ≡ 0
+get_or_zeros : (n x : ℕ) → get_or (zeros n) x 0 ≡ 0
 unfolding zeros
-getD_zeros zero x = refl
-getD_zeros (suc n) zero = refl
-getD_zeros (suc n) (suc x) = getD_zeros n x
+get_or_zeros zero x = refl
+get_or_zeros (suc n) zero = refl
+get_or_zeros (suc n) (suc x) = get_or_zeros n x
 
 -- every marked node leads to i
 record Path (t : List (List ℕ)) (e cs : List ℕ) (i : ℕ) : Type 0 where
@@ -90,8 +90,8 @@ module _ (t : List (List ℕ)) (e : List ℕ) (closed : Closed t e) where
   from_none : (i : ℕ) → i < length t → Circle t e ⊎ Ends t e i
   from_none i hi =
       let cs = zeros (length t) in
-      (find (white cs)).look cs i hi (getD_zeros (length t) i) (omega arith)
-      (record { long = omega (arith, length_zeros (length t)); on = λ x nz. absurd (nz (getD_zeros (length t) x)) })
+      (find (white cs)).look cs i hi (get_or_zeros (length t) i) (omega arith)
+      (record { long = omega (arith, length_zeros (length t)); on = λ x nz. absurd (nz (get_or_zeros (length t) x)) })
 
   all_below : (n : ℕ) → n ≤ length t → Circle t e ⊎ ((i : ℕ) → i < n → Ends t e i)
   all_below zero h = inr (λ i l. absurd (omega arith))

@@ -8,7 +8,7 @@ use native.Mathlib.Omega.{arith}
 use native.Mathlib.Decide.{ℕ_discrete, dec_lt}
 use lib.ListN.{length, get_or}
 use Rattle.file_tables.specs.Tables.{Tables, kind, first, second, flat, flat_mark, flat_word, choice_start, choice_length, skipped, width}
-use Rattle.file_utf8.specs.Rows.{utf8?}
+use Rattle.file_utf8.proofs.Rows.{utf8?}
 use Rattle.file_checks.specs.declared.Lengths.{Lengths}
 use Rattle.file_checks.specs.Tells.{told_dec}
 use Rattle.file_checks.specs.References.{lengths_of, seq, fill, KindNamed, Named, RowsNamed, Numbers, References}

@@ -27,6 +27,7 @@ unchanged [] = done
 unchanged (y ∷ ys) = keep (unchanged ys)
 
 replace_first : {t : List (List ℕ)} {ys zs xs : List ℕ} {k : ℕ} → Cut t zs xs k → Replaced t ys zs → Cut t ys xs (suc k)
+replace_first {t = t} {ys = ys} done r = elim r [ ]
 replace_first (keep c) (here h) = split h (keep c)
 replace_first (keep c) (later r) = keep (replace_first c r)
 replace_first (split g c) (here h) = split h (split g c)

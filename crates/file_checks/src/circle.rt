@@ -75,7 +75,7 @@ fn target(nodes: &[[u32; 8]], edges: &[u32], i: usize, k: u32) -> NodeId
 }
 
 // What a turn of the search comes to: a circle, or a way whose last row stands at a place.
-#[derive(Drop)]
+#[derive(Clone, Copy)]
 enum Turn {
     Round,
     At(usize),

@@ -1,4 +1,6 @@
 // What must hold of a whole file, over its tables: the refusals 6 to 10 (references, texts, space, no circle, choice lists).
+#![tactic(auto)]
+
 ghost use Rattle.std.specs.Prelude.{◌≤◌, length};
 ghost use Rattle.file_checks.specs.Descent.{Closed};
 ghost use Rattle.file_checks.specs.Search.{ListsInside, GraphJudged};
@@ -16,7 +18,7 @@ pub mod names;
 pub mod texts;
 
 // How many there are of each.
-#[derive(Drop)]
+#[derive(Clone, Copy)]
 pub struct Lengths {
     pub nodes: usize,
     pub edges: usize,

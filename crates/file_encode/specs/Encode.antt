@@ -15,36 +15,36 @@ abbrev pub marked : List ℕ → Bool
 marked row = eqb (flat_mark row) 1
 
 -- a number where it is present, nothing where it is absent
-abbrev pub encIf : Bool → ℕ → List ℕ
-encIf true v = enc32 v
-encIf false v = []
+abbrev pub enc_if : Bool → ℕ → List ℕ
+enc_if true v = enc32 v
+enc_if false v = []
 
-abbrev pub encField : ℕ → List ℕ
-encField v = encIf (present v) v
+abbrev pub enc_field : ℕ → List ℕ
+enc_field v = enc_if (present v) v
 
 -- a map byte: by ascending bit, which fields are present
 abbrev pub flag : Bool → ℕ
 flag true = 1
 flag false = 0
 
-unfoldable pub mapOf : List Bool → ℕ
-mapOf [] = 0
-mapOf (b ∷ bs) = flag b + 2 * mapOf bs
+unfoldable pub map_of : List Bool → ℕ
+map_of [] = 0
+map_of (b ∷ bs) = flag b + 2 * map_of bs
 
 -- ---- the header: nodes, edges, texts, annotations, choice edges, root, space text
 
-unfoldable pub headerMap : ℕ → ℕ → ℕ → ℕ → ℕ → ℕ → ℕ → ℕ
-headerMap n e x a c r w = mapOf (present n ∷ present e ∷ present x ∷ present a ∷ present c ∷ present r ∷ present w ∷ [])
+unfoldable pub header_map : ℕ → ℕ → ℕ → ℕ → ℕ → ℕ → ℕ → ℕ
+header_map n e x a c r w = map_of (present n ∷ present e ∷ present x ∷ present a ∷ present c ∷ present r ∷ present w ∷ [])
 
-unfoldable pub encHeader : ℕ → ℕ → ℕ → ℕ → ℕ → ℕ → ℕ → List ℕ
-encHeader n e x a c r w =
-    headerMap n e x a c r w ∷ (encField n ++ (encField e ++ (encField x ++ (encField a ++ (encField c ++ (encField r ++ encField w))))))
+unfoldable pub enc_header : ℕ → ℕ → ℕ → ℕ → ℕ → ℕ → ℕ → List ℕ
+enc_header n e x a c r w =
+    header_map n e x a c r w ∷ (enc_field n ++ (enc_field e ++ (enc_field x ++ (enc_field a ++ (enc_field c ++ (enc_field r ++ enc_field w))))))
 
 -- ---- a node
 
-unfoldable pub nodeMap : List ℕ → ℕ
-nodeMap row =
-    mapOf
+unfoldable pub node_map : List ℕ → ℕ
+node_map row =
+    map_of
     (present (first row)
     ∷ present (second row)
     ∷ marked row
@@ -53,26 +53,26 @@ nodeMap row =
     ∷ present (skipped row)
     ∷ [])
 
-unfoldable pub encNode : List ℕ → List ℕ
-encNode row =
-    nodeMap row
+unfoldable pub enc_node : List ℕ → List ℕ
+enc_node row =
+    node_map row
     ∷ kind row
-    ∷ (encField (first row)
-    ++ (encField (second row)
-    ++ (encIf (marked row) (flat_word row) ++ (encField (choice_start row) ++ (encField (choice_length row) ++ encField (skipped row))))))
+    ∷ (enc_field (first row)
+    ++ (enc_field (second row)
+    ++ (enc_if (marked row) (flat_word row) ++ (enc_field (choice_start row) ++ (enc_field (choice_length row) ++ enc_field (skipped row))))))
 
 -- ---- a text and its bytes
 
-unfoldable pub textMap : List ℕ → ℕ
-textMap row = mapOf (present (width row) ∷ present (byte_length row) ∷ [])
+unfoldable pub text_map : List ℕ → ℕ
+text_map row = map_of (present (width row) ∷ present (byte_length row) ∷ [])
 
-unfoldable pub encText : List ℕ → List ℕ → List ℕ
-encText row part = textMap row ∷ (encField (width row) ++ (encField (byte_length row) ++ part))
+unfoldable pub enc_text : List ℕ → List ℕ → List ℕ
+enc_text row part = text_map row ∷ (enc_field (width row) ++ (enc_field (byte_length row) ++ part))
 
 -- the texts, each with its part of the bytes that are left
-unfoldable pub encTexts : List (List ℕ) → List ℕ → List ℕ
-encTexts [] bytes = []
-encTexts (row ∷ rows) bytes = encText row (take (byte_length row) bytes) ++ encTexts rows (drop (byte_length row) bytes)
+unfoldable pub enc_texts : List (List ℕ) → List ℕ → List ℕ
+enc_texts [] bytes = []
+enc_texts (row ∷ rows) bytes = enc_text row (take (byte_length row) bytes) ++ enc_texts rows (drop (byte_length row) bytes)
 
 -- ---- the whole
 
@@ -83,8 +83,8 @@ each f (x ∷ xs) = f x ++ each f xs
 
 unfoldable pub encode : Tables → List ℕ
 encode t =
-    encHeader (length t.nodes) (length t.edges) (length t.texts) t.annotations (length t.choices) t.root t.space
-    ++ (each encNode t.nodes ++ (each enc32 t.edges ++ (each enc32 t.choices ++ encTexts t.texts t.bytes)))
+    enc_header (length t.nodes) (length t.edges) (length t.texts) t.annotations (length t.choices) t.root t.space
+    ++ (each enc_node t.nodes ++ (each enc32 t.edges ++ (each enc32 t.choices ++ enc_texts t.texts t.bytes)))
 
 -- how many bytes the texts have together
 unfoldable pub lengths : List (List ℕ) → ℕ

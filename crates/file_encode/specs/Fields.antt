@@ -3,9 +3,9 @@ use Rattle.std.specs.Prelude.{◌≡◌, refl, Bool, true, false, List, [], ◌�
 use Rattle.std.proofs.Common.{sym, ap, ◌∙◌, true≢false, append_assoc, arith, add-one, length-drop, drop-cons, lt-ltb, le-leb, eq-eqb, ne_eqb, leb-true, ltb-true, ltb-false, eqb-true}
 use Rattle.std.proofs.lemmas.Bool.{eqb-false}
 use Rattle.file_fields.specs.declared.Step.{Step}
-use Rattle.file_fields.specs.Fields.{pick, got, refused, after, u32, byte_at, word_at, nonzero, field_at, number_at, limited, countAt, formed, bit}
+use Rattle.file_fields.specs.Fields.{pick, got, refused, u32, byte_at, word_at, nonzero, field_at, number_at, limited, count_at, formed}
 use Rattle.file_form.specs.Nodes.{checked}
-use Rattle.file_encode.specs.Encode.{enc32, encIf, encField, present, flag}
+use Rattle.file_encode.specs.Encode.{enc32, enc_if, enc_field, present, flag}
 
 -- every byte is below 256
 pub record Bytes (s : List ℕ) : Type 0 where
@@ -99,7 +99,7 @@ nonzero_back w h = go (eqb w.fault 0) (eqb w.value 0) refl refl h
 
 -- a field took its encoding, and its bit says whether it is present
 pub record TookField (s : List ℕ) (on : Bool) (p q : Step) : Type 0 where
-  pub took : Took s p q (encField q.value)
+  pub took : Took s p q (enc_field q.value)
   pub shown : on ≡ present q.value
 
 pub field_back : (s : List ℕ) (on : Bool) (p : Step) → Bytes s → (field_at s on p).fault ≡ 0 → TookField s on p (field_at s on p)
@@ -119,7 +119,7 @@ field_back s on p z h = go (eqb p.fault 0) on refl h
 
 -- a number that may be 0 took its encoding, and is 0 where it is absent
 pub record TookNumber (s : List ℕ) (on : Bool) (p q : Step) : Type 0 where
-  pub took : Took s p q (encIf on q.value)
+  pub took : Took s p q (enc_if on q.value)
   pub absent : on ≡ false → q.value ≡ 0
 
 pub number_back : (s : List ℕ) (on : Bool) (p : Step) → Bytes s → (number_at s on p).fault ≡ 0 → TookNumber s on p (number_at s on p)
@@ -151,8 +151,8 @@ pub record TookCount (s : List ℕ) (on : Bool) (low high : ℕ) (p q : Step) : 
   pub above : low ≤ q.value
   pub below : q.value ≤ high
 
-pub count_back : (s : List ℕ) (on : Bool) (low high : ℕ) (p : Step) → Bytes s → (countAt s on low high p).fault ≡ 0 → TookCount s on low high p (countAt s on low high p)
-unfolding countAt
+pub count_back : (s : List ℕ) (on : Bool) (low high : ℕ) (p : Step) → Bytes s → (count_at s on low high p).fault ≡ 0 → TookCount s on low high p (count_at s on low high p)
+unfolding count_at
 count_back s on low high p z h =
     let l = limited_back low high (field_at s on p) h in
     rw l.0 (record { field = field_back s on p z (rw l.0 at h); above = l.1.0; below = l.1.1 })
@@ -211,14 +211,14 @@ word_there s at v rest h =
     rw (le-leb (at + 4) (length s) le) (record { value = z; next = record { fine = refl; inside = le; left = ap (drop 4) e } })
 
 pub number_there : (s : List ℕ) (on : Bool) (p : Step) (v : ℕ) (rest : List ℕ)
-    → (on ≡ false → v ≡ 0) → At s p (encIf on v ++ rest) → Read s (number_at s on p) v rest
+    → (on ≡ false → v ≡ 0) → At s p (enc_if on v ++ rest) → Read s (number_at s on p) v rest
 unfolding number_at
 number_there s true p v rest z h = rw (eq-eqb p.fault 0 h.fine) (word_there s p.at v rest h.left)
 number_there s false p v rest z h =
     rw (eq-eqb p.fault 0 h.fine) (record { value = sym (z refl); next = record { fine = refl; inside = h.inside; left = h.left } })
 
 pub field_there : (s : List ℕ) (on : Bool) (p : Step) (v : ℕ) (rest : List ℕ)
-    → on ≡ present v → At s p (encField v ++ rest) → Read s (field_at s on p) v rest
+    → on ≡ present v → At s p (enc_field v ++ rest) → Read s (field_at s on p) v rest
 unfolding field_at nonzero
 field_there s true p v rest e h =
     let w = word_there s p.at v rest (rw (← e) at h.left) in
@@ -229,8 +229,8 @@ field_there s false p v rest e h =
     rw (eq-eqb p.fault 0 h.fine) (record { value = sym z; next = record { fine = refl; inside = h.inside; left = rw (← e) at h.left } })
 
 pub count_there : (s : List ℕ) (on : Bool) (low high : ℕ) (p : Step) (v : ℕ) (rest : List ℕ)
-    → on ≡ present v → low ≤ v → v ≤ high → At s p (encField v ++ rest) → Read s (countAt s on low high p) v rest
-unfolding countAt limited
+    → on ≡ present v → low ≤ v → v ≤ high → At s p (enc_field v ++ rest) → Read s (count_at s on low high p) v rest
+unfolding count_at limited
 count_there s on low high p v rest e hl hh h =
     let w = field_there s on p v rest e h in
     let l : low ≤ (field_at s on p).value = rw w.value hl in

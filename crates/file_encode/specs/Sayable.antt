@@ -1,6 +1,6 @@
 -- The tables that bytes can say, right or wrong: each word has its place in a record, so that they have an encoding that a reader can judge.
 -- Memory can say three things more, for which a file has no place: a kind past a byte; a flat mark that is not a bit, or a flat node beside the mark 0;
--- a text that does not start where the one before it ends. Each is 3 at its node or text (`nodeRight`, `textsFault`).
+-- a text that does not start where the one before it ends. Each is 3 at its node or text (`node_is_right`, `texts_fault`).
 use Rattle.std.specs.Prelude.{ℕ, ◌≤◌, ◌<◌, ◌≡◌, List, [], length, get_or, take}
 use Rattle.file_tables.specs.Tables.{Tables, kind, flat_mark, flat_word, byte_start}
 use Rattle.file_encode.specs.Encode.{lengths, Sized}

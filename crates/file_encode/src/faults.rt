@@ -1,8 +1,8 @@
 // The refusals 3 and 4 of tables, in file order.
 ghost use Rattle.std.specs.Prelude.{◌≡◌, ◌≤◌, ◌<◌, length};
 ghost use Rattle.file_tables.specs.Tables.{byte_start};
-ghost use Rattle.file_encode.specs.Encode.{flag, nodeMap, Wide};
-ghost use Rattle.file_encode.specs.Faults.{nodeRight, nodesFault, textsFault, or_else, countFault, headerFault};
+ghost use Rattle.file_encode.specs.Encode.{flag, node_map, Wide};
+ghost use Rattle.file_encode.specs.Faults.{node_is_right, nodes_fault, texts_fault, or_else, count_fault, header_fault};
 
 use file_form::kinds::{both, map_right, only, pair_right};
 
@@ -23,7 +23,7 @@ pub fn flag(b: bool) -> u32
 
 // The map byte of a node's row.
 pub fn node_map(row: [u32; 8]) -> u32
-    ensures { (result ≡ nodeMap row) × (result ≤ 63) }
+    ensures { (result ≡ node_map row) × (result ≤ 63) }
 {
     let a = flag(0 < row[1]);
     let b = flag(0 < row[2]);
@@ -36,7 +36,7 @@ pub fn node_map(row: [u32; 8]) -> u32
 
 // A row has its width by its type, which a caller learns here.
 pub fn node_right(row: [u32; 8]) -> bool
-    ensures { (result ≡ nodeRight row) × (length row ≡ 8) }
+    ensures { (result ≡ node_is_right row) × (length row ≡ 8) }
 {
     let m = node_map(row);
     let flat = both(row[3] <= 1, only(0 < row[4], row[3] == 1));
@@ -45,7 +45,7 @@ pub fn node_right(row: [u32; 8]) -> bool
 }
 
 pub fn nodes_fault(nodes: &[[u32; 8]]) -> u32
-    ensures value { result ≡ nodesFault nodes.now }
+    ensures value { result ≡ nodes_fault nodes.now }
     ensures wide { result ≡ 0 → Wide 8 nodes.now (length nodes.now) }
 {
     let mut i: usize = 0;
@@ -67,7 +67,7 @@ pub fn text_start(row: [u32; 3]) -> usize
 }
 
 pub fn texts_fault(texts: &[[u32; 3]]) -> u32
-    ensures value { result ≡ textsFault 0 texts.now }
+    ensures value { result ≡ texts_fault 0 texts.now }
     ensures wide { result ≡ 0 → Wide 3 texts.now (length texts.now) }
 {
     let mut total: usize = 0;
@@ -99,7 +99,7 @@ pub fn or_else(a: u32, b: u32) -> u32
 }
 
 pub fn count_fault(low: u32, high: u32, n: u32) -> u32
-    ensures { result ≡ countFault low high n }
+    ensures { result ≡ count_fault low high n }
 {
     if n < low {
         return 4;
@@ -111,7 +111,7 @@ pub fn count_fault(low: u32, high: u32, n: u32) -> u32
 }
 
 pub fn header_fault(n: u32, e: u32, x: u32, a: u32, c: u32) -> u32
-    ensures { result ≡ headerFault n e x a c }
+    ensures { result ≡ header_fault n e x a c }
 {
     let choices = count_fault(0, 16384, c);
     let annotations = or_else(count_fault(0, 4096, a), choices);

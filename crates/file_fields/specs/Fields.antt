@@ -52,8 +52,8 @@ limited low high f =
     pick (eqb f.fault 0) (pick (leb low f.value) (pick (leb f.value high) f (refused 4 f.at)) (refused 4 f.at)) (refused f.fault f.at)
 
 -- a count: present or absent, it is from low to high
-unfoldable pub countAt : List ℕ → Bool → ℕ → ℕ → Step → Step
-countAt s on low high p = limited low high (field_at s on p)
+unfoldable pub count_at : List ℕ → Bool → ℕ → ℕ → Step → Step
+count_at s on low high p = limited low high (field_at s on p)
 
 -- a map byte of at most high, or form (3)
 unfoldable pub formed : ℕ → Step → Step

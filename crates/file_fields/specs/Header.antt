@@ -3,41 +3,41 @@
 use Rattle.std.specs.Prelude.{List, ℕ}
 use Rattle.file_fields.specs.declared.Step.{Step}
 use Rattle.file_fields.specs.declared.header.Header.{Header}
-use Rattle.file_fields.specs.Fields.{got, byte_at, field_at, countAt, formed, bit}
+use Rattle.file_fields.specs.Fields.{got, byte_at, field_at, count_at, formed, bit}
 
 module _ (s : List ℕ) where
-  unfoldable pub hMap : Step
-  hMap = formed 127 (byte_at s (got 0 0))
+  unfoldable pub h_map : Step
+  h_map = formed 127 (byte_at s (got 0 0))
 
-  unfoldable pub hNodes : Step
-  hNodes = countAt s (bit hMap.value 1) 1 4096 hMap
+  unfoldable pub h_nodes : Step
+  h_nodes = count_at s (bit h_map.value 1) 1 4096 h_map
 
-  unfoldable pub hEdges : Step
-  hEdges = countAt s (bit hMap.value 2) 0 16384 hNodes
+  unfoldable pub h_edges : Step
+  h_edges = count_at s (bit h_map.value 2) 0 16384 h_nodes
 
-  unfoldable pub hTexts : Step
-  hTexts = countAt s (bit hMap.value 4) 1 4096 hEdges
+  unfoldable pub h_texts : Step
+  h_texts = count_at s (bit h_map.value 4) 1 4096 h_edges
 
-  unfoldable pub hAnnotations : Step
-  hAnnotations = countAt s (bit hMap.value 8) 0 4096 hTexts
+  unfoldable pub h_annotations : Step
+  h_annotations = count_at s (bit h_map.value 8) 0 4096 h_texts
 
-  unfoldable pub hChoices : Step
-  hChoices = countAt s (bit hMap.value 16) 0 16384 hAnnotations
+  unfoldable pub h_choices : Step
+  h_choices = count_at s (bit h_map.value 16) 0 16384 h_annotations
 
-  unfoldable pub hRoot : Step
-  hRoot = field_at s (bit hMap.value 32) hChoices
+  unfoldable pub h_root : Step
+  h_root = field_at s (bit h_map.value 32) h_choices
 
-  unfoldable pub hSpace : Step
-  hSpace = field_at s (bit hMap.value 64) hRoot
+  unfoldable pub h_space : Step
+  h_space = field_at s (bit h_map.value 64) h_root
 
   unfoldable pub header_at : Header
   header_at = record {
-    nodes = hNodes.value;
-    edges = hEdges.value;
-    texts = hTexts.value;
-    annotations = hAnnotations.value;
-    choices = hChoices.value;
-    root = hRoot.value;
-    space = hSpace.value;
-    next = hSpace;
+    nodes = h_nodes.value;
+    edges = h_edges.value;
+    texts = h_texts.value;
+    annotations = h_annotations.value;
+    choices = h_choices.value;
+    root = h_root.value;
+    space = h_space.value;
+    next = h_space;
   }

@@ -5,7 +5,7 @@ ghost use Rattle.file_fields.specs.Header.{header_at};
 use crate::{Step, byte_at, count_at, field_at, formed};
 
 // The header's numbers, and the step after it.
-#[derive(Drop)]
+#[derive(Clone, Copy)]
 pub struct Header {
     pub nodes: u32,
     pub edges: u32,

@@ -1,11 +1,13 @@
 // The fields of a prepared file, read from a position on. A refusal is handed on by every later step, so that the first in file order stays.
+#![tactic(auto)]
+
 pub mod header;
 
 ghost use Rattle.std.specs.Prelude.{◌≡◌, ◌<◌};
-ghost use Rattle.file_fields.specs.Fields.{byte_at, word_at, nonzero, field_at, number_at, limited, countAt, formed};
+ghost use Rattle.file_fields.specs.Fields.{byte_at, word_at, nonzero, field_at, number_at, limited, count_at, formed};
 
 // A number that was read, the position after it, and the refusal so far (0: none).
-#[derive(Drop)]
+#[derive(Clone, Copy)]
 pub struct Step {
     pub value: u32,
     pub at: usize,
@@ -152,7 +154,7 @@ fn limited(low: u32, high: u32, f: Step) -> Step
 }
 
 pub fn count_at(s: &[u8], on: bool, low: u32, high: u32, p: Step) -> Step
-    ensures { result ≡ countAt s.now on low high p }
+    ensures { result ≡ count_at s.now on low high p }
 {
     limited(low, high, field_at(s, on, p))
 }

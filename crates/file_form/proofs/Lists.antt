@@ -1,6 +1,6 @@
 -- Laws on lists that several proofs cite.
 use mathlib.Core.Path.{◌≡◌, sym, ap, ◌∙◌, subst}
-use mathlib.Core.List.{List, ◌++◌, append_assoc, append_nil}
+use mathlib.Core.List.{List, ◌++◌, append_assoc, append-nil}
 use Prim.Native.Nat.{ℕ, suc, ◌+◌, ◌-◌, ◌≤◌, ◌<◌}
 use native.Mathlib.Omega.{arith}
 use native.Mathlib.Numerals.{add-one}
@@ -33,7 +33,7 @@ pub put_back :
     → take at b ++ (ys ++ drop k (drop at b)) ≡ sets b at src
 put_back b src ys at k ek h ey =
     let l : length (drop at b) ≤ k = simp length-drop (omega arith) in
-    rw (ey, take_all k (drop at b) l, drop_of_length-le (drop at b) l, append_nil, drop-drop (length src) at b, sets-eq src b at h)
+    rw (ey, take_all k (drop at b) l, drop_of_length-le (drop at b) l, append-nil, drop-drop (length src) at b, sets-eq src b at h)
     (sym (append_assoc (take at b) src (drop (at + length src) b)))
 
 -- a run of stores keeps the length

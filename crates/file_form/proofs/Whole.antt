@@ -9,13 +9,13 @@ use lib.Dec.{leb, eqb}
 use borrow.Author.Tests.{leb-true}
 use Rattle.file_fields.specs.declared.Step.{Step}
 use Rattle.file_fields.specs.declared.header.Header.{Header}
-use Rattle.file_fields.specs.Fields.{pick, refused, field_at, limited, countAt, bit}
-use Rattle.file_fields.specs.Header.{hMap, hNodes, hEdges, hTexts, hAnnotations, hChoices, header_at}
+use Rattle.file_fields.specs.Fields.{pick, refused, field_at, limited, count_at, bit}
+use Rattle.file_fields.specs.Header.{h_map, h_nodes, h_edges, h_texts, h_annotations, h_choices, header_at}
 use Rattle.file_form.specs.declared.texts.Run.{Run}
-use Rattle.file_form.specs.Nodes.{afterNodes, nodeRows}
-use Rattle.file_form.specs.Numbers.{afterNumbers, numbers, surplus}
-use Rattle.file_form.specs.Texts.{tMap, tWidth, tLength, tEnd, afterTexts, textRows, textBytes}
-use Rattle.file_form.specs.Form.{fNodes, fEdges, fChoices, fTexts, fEnd, formFault, tables_of, countsOf, Filling}
+use Rattle.file_form.specs.Nodes.{after_nodes, read_node_rows}
+use Rattle.file_form.specs.Numbers.{after_numbers, numbers, surplus}
+use Rattle.file_form.specs.Texts.{t_map, t_width, t_length, t_end, after_texts, read_text_rows, text_bytes}
+use Rattle.file_form.specs.Form.{f_nodes, f_edges, f_choices, f_texts, f_end, form_fault, tables_of, counts_of, Filling}
 use Rattle.file_form.proofs.Turns.{totalled_le, span_in}
 
 pub limited_le : (low high : ℕ) (f : Step) → (limited low high f).value ≤ high
@@ -36,37 +36,37 @@ pub record Limits (h : Header) : Type 0 where
   pub choices : h.choices ≤ 16384
 
 header_limits : (s : List ℕ) → Limits (header_at s)
-unfolding header_at hNodes hEdges hTexts hAnnotations hChoices countAt
+unfolding header_at h_nodes h_edges h_texts h_annotations h_choices count_at
 header_limits s =
     record {
-      nodes = limited_le 1 4096 (field_at s (bit (hMap s).value 1) (hMap s));
-      edges = limited_le 0 16384 (field_at s (bit (hMap s).value 2) (hNodes s));
-      texts = limited_le 1 4096 (field_at s (bit (hMap s).value 4) (hEdges s));
-      annotations = limited_le 0 4096 (field_at s (bit (hMap s).value 8) (hTexts s));
-      choices = limited_le 0 16384 (field_at s (bit (hMap s).value 16) (hAnnotations s));
+      nodes = limited_le 1 4096 (field_at s (bit (h_map s).value 1) (h_map s));
+      edges = limited_le 0 16384 (field_at s (bit (h_map s).value 2) (h_nodes s));
+      texts = limited_le 1 4096 (field_at s (bit (h_map s).value 4) (h_edges s));
+      annotations = limited_le 0 4096 (field_at s (bit (h_map s).value 8) (h_texts s));
+      choices = limited_le 0 16384 (field_at s (bit (h_map s).value 16) (h_annotations s));
     }
 
 pub limits : (s : List ℕ) (h : Header) → h ≡ header_at s → Limits h
 limits s h e = rw e (header_limits s)
 
-total_le : (s : List ℕ) (p : Step) (k : ℕ) → (afterTexts s p k).total ≤ 65536
-unfolding afterTexts tEnd tLength
+total_le : (s : List ℕ) (p : Step) (k : ℕ) → (after_texts s p k).total ≤ 65536
+unfolding after_texts t_end t_length
 total_le s p zero = omega arith
 total_le s p (suc k) =
-    let r = afterTexts s p k in
-    let l = tLength s r.total r.next in
-    omega (arith, totalled_le r.total (field_at s (bit (tMap s r.total r.next).value 2) (tWidth s r.total r.next)) (total_le s p k), (span_in s l).0)
+    let r = after_texts s p k in
+    let l = t_length s r.total r.next in
+    omega (arith, totalled_le r.total (field_at s (bit (t_map s r.total r.next).value 2) (t_width s r.total r.next)) (total_le s p k), (span_in s l).0)
 
-pub run_le : (s : List ℕ) (p : Step) (k : ℕ) (v : Run) → v ≡ afterTexts s p k → v.total ≤ 65536
+pub run_le : (s : List ℕ) (p : Step) (k : ℕ) (v : Run) → v ≡ after_texts s p k → v.total ≤ 65536
 run_le s p k v e = rw e (total_le s p k)
 
 pub filling :
     (s : List ℕ) (h : Header) (q r u : Step) (v : Run) (w : Step) (ns : List (List ℕ)) (es xs : List ℕ) (ts : List (List ℕ)) (bs : List ℕ)
     → h ≡ header_at s
-    → (q ≡ afterNodes s h.next h.nodes) × (take h.nodes ns ≡ nodeRows s h.next h.nodes)
-    → (r ≡ afterNumbers s q h.edges) × (take h.edges es ≡ numbers s q h.edges)
-    → (u ≡ afterNumbers s r h.choices) × (take h.choices xs ≡ numbers s r h.choices)
-    → (v ≡ afterTexts s u h.texts) × ((take h.texts ts ≡ textRows s u h.texts) × (take v.total bs ≡ textBytes s u h.texts))
+    → (q ≡ after_nodes s h.next h.nodes) × (take h.nodes ns ≡ read_node_rows s h.next h.nodes)
+    → (r ≡ after_numbers s q h.edges) × (take h.edges es ≡ numbers s q h.edges)
+    → (u ≡ after_numbers s r h.choices) × (take h.choices xs ≡ numbers s r h.choices)
+    → (v ≡ after_texts s u h.texts) × ((take h.texts ts ≡ read_text_rows s u h.texts) × (take v.total bs ≡ text_bytes s u h.texts))
     → w ≡ surplus s v.next
     → Filling s
     (record {
@@ -74,7 +74,7 @@ pub filling :
       fault = w.fault;
     })
     ns es xs ts bs
-unfolding fNodes fEdges fChoices fTexts fEnd formFault tables_of countsOf
+unfolding f_nodes f_edges f_choices f_texts f_end form_fault tables_of counts_of
 filling s h q r u v w ns es xs ts bs e n a b t z =
     record {
       counts = rw (t.0, b.0, a.0, n.0, e);

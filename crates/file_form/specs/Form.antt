@@ -7,51 +7,51 @@ use Rattle.file_tables.specs.Tables.{Tables, tables}
 use Rattle.file_form.specs.declared.texts.Run.{Run}
 use Rattle.file_form.specs.declared.fill.Counts.{Counts}
 use Rattle.file_form.specs.declared.fill.Filled.{Filled}
-use Rattle.file_form.specs.Nodes.{afterNodes, nodeRows}
-use Rattle.file_form.specs.Numbers.{afterNumbers, numbers, surplus}
-use Rattle.file_form.specs.Texts.{afterTexts, textRows, textBytes}
+use Rattle.file_form.specs.Nodes.{after_nodes, read_node_rows}
+use Rattle.file_form.specs.Numbers.{after_numbers, numbers, surplus}
+use Rattle.file_form.specs.Texts.{after_texts, read_text_rows, text_bytes}
 
 module _ (s : List ℕ) where
-  unfoldable pub fNodes : Step
-  fNodes = afterNodes s (header_at s).next (header_at s).nodes
+  unfoldable pub f_nodes : Step
+  f_nodes = after_nodes s (header_at s).next (header_at s).nodes
 
-  unfoldable pub fEdges : Step
-  fEdges = afterNumbers s fNodes (header_at s).edges
+  unfoldable pub f_edges : Step
+  f_edges = after_numbers s f_nodes (header_at s).edges
 
-  unfoldable pub fChoices : Step
-  fChoices = afterNumbers s fEdges (header_at s).choices
+  unfoldable pub f_choices : Step
+  f_choices = after_numbers s f_edges (header_at s).choices
 
-  unfoldable pub fTexts : Run
-  fTexts = afterTexts s fChoices (header_at s).texts
+  unfoldable pub f_texts : Run
+  f_texts = after_texts s f_choices (header_at s).texts
 
-  unfoldable pub fEnd : Step
-  fEnd = surplus s fTexts.next
+  unfoldable pub f_end : Step
+  f_end = surplus s f_texts.next
 
   -- the first refusal of 2 to 5, or 0
-  unfoldable pub formFault : ℕ
-  formFault = fEnd.fault
+  unfoldable pub form_fault : ℕ
+  form_fault = f_end.fault
 
   -- the tables that the file means
   unfoldable pub tables_of : Tables
   tables_of = record {
-    nodes = nodeRows s (header_at s).next (header_at s).nodes;
-    edges = numbers s fNodes (header_at s).edges;
-    choices = numbers s fEdges (header_at s).choices;
-    texts = textRows s fChoices (header_at s).texts;
-    bytes = textBytes s fChoices (header_at s).texts;
+    nodes = read_node_rows s (header_at s).next (header_at s).nodes;
+    edges = numbers s f_nodes (header_at s).edges;
+    choices = numbers s f_edges (header_at s).choices;
+    texts = read_text_rows s f_choices (header_at s).texts;
+    bytes = text_bytes s f_choices (header_at s).texts;
     annotations = (header_at s).annotations;
     root = (header_at s).root;
     space = (header_at s).space;
   }
 
   -- how many of each there are, and the root and the space text
-  unfoldable pub countsOf : Counts
-  countsOf = record {
+  unfoldable pub counts_of : Counts
+  counts_of = record {
     nodes = (header_at s).nodes;
     edges = (header_at s).edges;
     choices = (header_at s).choices;
     texts = (header_at s).texts;
-    bytes = fTexts.total;
+    bytes = f_texts.total;
     annotations = (header_at s).annotations;
     root = record { 0 = (header_at s).root };
     space = record { 0 = (header_at s).space };
@@ -76,6 +76,6 @@ pub record Holds (t : Tables) (n : Counts) (nodes : List (List ℕ)) (edges choi
 
 -- the file s was read field by field into lent memory
 pub record Filling (s : List ℕ) (r : Filled) (nodes : List (List ℕ)) (edges choices : List ℕ) (texts : List (List ℕ)) (bytes : List ℕ) : Type 0 where
-  pub counts : r.counts ≡ countsOf s
-  pub fault : r.fault ≡ formFault s
-  pub held : Holds (tables_of s) (countsOf s) nodes edges choices texts bytes
+  pub counts : r.counts ≡ counts_of s
+  pub fault : r.fault ≡ form_fault s
+  pub held : Holds (tables_of s) (counts_of s) nodes edges choices texts bytes

@@ -8,11 +8,11 @@ unfoldable pub named : List ℕ
 named = 0 ∷ 1 ∷ 0 ∷ 0 ∷ 2 ∷ 1 ∷ 2 ∷ 2 ∷ 1 ∷ 2 ∷ 2 ∷ 2 ∷ []
 
 -- whether a kind names a first, a second
-unfoldable pub hasFirst : ℕ → Bool
-hasFirst k = leb 1 (get_or named k 0)
+unfoldable pub has_first : ℕ → Bool
+has_first k = leb 1 (get_or named k 0)
 
-unfoldable pub hasSecond : ℕ → Bool
-hasSecond k = leb 2 (get_or named k 0)
+unfoldable pub has_second : ℕ → Bool
+has_second k = leb 2 (get_or named k 0)
 
 -- both hold
 abbrev pub both : Bool → Bool → Bool
@@ -29,5 +29,5 @@ unfoldable pub map_right : ℕ → Bool
 map_right m = both (leb m 63) (both (only (bit m 8) (bit m 16)) (only (bit m 32) (bit m 16)))
 
 -- map byte and kind byte together: a kind from 0 to 11; bits 0 and 1 only where the kind names a first, a second; bit 4 only in kind 9. Bit 2 (flat node) may stand in any kind
-unfoldable pub pairRight : ℕ → ℕ → Bool
-pairRight m k = both (ltb k 12) (both (only (bit m 1) (hasFirst k)) (both (only (bit m 2) (hasSecond k)) (only (bit m 16) (eqb k 9))))
+unfoldable pub pair_right : ℕ → ℕ → Bool
+pair_right m k = both (ltb k 12) (both (only (bit m 1) (has_first k)) (both (only (bit m 2) (has_second k)) (only (bit m 16) (eqb k 9))))

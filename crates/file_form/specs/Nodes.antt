@@ -3,57 +3,57 @@ use Rattle.std.specs.Prelude.{ℕ, zero, suc, ◌/◌, ◌%◌, List, [], ◌∷
 use Rattle.file_fields.specs.declared.Step.{Step}
 use Rattle.file_fields.specs.Fields.{pick, after, refused, bit, byte_at, field_at, number_at}
 use Rattle.file_form.specs.declared.nodes.Node.{Node}
-use Rattle.file_form.specs.Kinds.{map_right, pairRight}
+use Rattle.file_form.specs.Kinds.{map_right, pair_right}
 
 -- a byte that is right, or form (3)
 unfoldable pub checked : Bool → Step → Step
 checked ok f = after f (pick ok f (refused 3 f.at))
 
-unfoldable pub mapAt : List ℕ → Step → Step
-mapAt s p = checked (map_right (byte_at s p).value) (byte_at s p)
+unfoldable pub map_at : List ℕ → Step → Step
+map_at s p = checked (map_right (byte_at s p).value) (byte_at s p)
 
 unfoldable pub kind_at : List ℕ → ℕ → Step → Step
-kind_at s m p = checked (pairRight m (byte_at s p).value) (byte_at s p)
+kind_at s m p = checked (pair_right m (byte_at s p).value) (byte_at s p)
 
 module _ (s : List ℕ) (p : Step) where
-  unfoldable pub nMap : Step
-  nMap = mapAt s p
+  unfoldable pub n_map : Step
+  n_map = map_at s p
 
-  unfoldable pub nKind : Step
-  nKind = kind_at s nMap.value nMap
+  unfoldable pub n_kind : Step
+  n_kind = kind_at s n_map.value n_map
 
-  unfoldable pub nFirst : Step
-  nFirst = field_at s (bit nMap.value 1) nKind
+  unfoldable pub n_first : Step
+  n_first = field_at s (bit n_map.value 1) n_kind
 
-  unfoldable pub nSecond : Step
-  nSecond = field_at s (bit nMap.value 2) nFirst
+  unfoldable pub n_second : Step
+  n_second = field_at s (bit n_map.value 2) n_first
 
-  unfoldable pub nFlat : Step
-  nFlat = number_at s (bit nMap.value 4) nSecond
+  unfoldable pub n_flat : Step
+  n_flat = number_at s (bit n_map.value 4) n_second
 
-  unfoldable pub nStart : Step
-  nStart = field_at s (bit nMap.value 8) nFlat
+  unfoldable pub n_start : Step
+  n_start = field_at s (bit n_map.value 8) n_flat
 
-  unfoldable pub nLength : Step
-  nLength = field_at s (bit nMap.value 16) nStart
+  unfoldable pub n_length : Step
+  n_length = field_at s (bit n_map.value 16) n_start
 
-  unfoldable pub nSkipped : Step
-  nSkipped = field_at s (bit nMap.value 32) nLength
+  unfoldable pub n_skipped : Step
+  n_skipped = field_at s (bit n_map.value 32) n_length
 
   -- the node's row, and the step after its record
-  unfoldable pub nodeAt : Node
-  nodeAt = record {
+  unfoldable pub node_at : Node
+  node_at = record {
     row =
-        nKind.value ∷ nFirst.value ∷ nSecond.value ∷ nMap.value / 4 % 2 ∷ nFlat.value ∷ nStart.value ∷ nLength.value ∷ nSkipped.value ∷ [];
-    next = nSkipped;
+        n_kind.value ∷ n_first.value ∷ n_second.value ∷ n_map.value / 4 % 2 ∷ n_flat.value ∷ n_start.value ∷ n_length.value ∷ n_skipped.value ∷ [];
+    next = n_skipped;
   }
 
 -- the step after the first k node records from the step p
-unfoldable pub afterNodes : List ℕ → Step → ℕ → Step
-afterNodes s p zero = p
-afterNodes s p (suc k) = (nodeAt s (afterNodes s p k)).next
+unfoldable pub after_nodes : List ℕ → Step → ℕ → Step
+after_nodes s p zero = p
+after_nodes s p (suc k) = (node_at s (after_nodes s p k)).next
 
 -- the rows of the first k nodes
-unfoldable pub nodeRows : List ℕ → Step → ℕ → List (List ℕ)
-nodeRows s p zero = []
-nodeRows s p (suc k) = nodeRows s p k ++ ((nodeAt s (afterNodes s p k)).row ∷ [])
+unfoldable pub read_node_rows : List ℕ → Step → ℕ → List (List ℕ)
+read_node_rows s p zero = []
+read_node_rows s p (suc k) = read_node_rows s p k ++ ((node_at s (after_nodes s p k)).row ∷ [])

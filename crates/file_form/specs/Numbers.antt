@@ -4,14 +4,14 @@ use Rattle.file_fields.specs.declared.Step.{Step}
 use Rattle.file_fields.specs.Fields.{pick, after, refused, number_at}
 
 -- the step after the first k numbers from the step p
-unfoldable pub afterNumbers : List ℕ → Step → ℕ → Step
-afterNumbers s p zero = p
-afterNumbers s p (suc k) = number_at s true (afterNumbers s p k)
+unfoldable pub after_numbers : List ℕ → Step → ℕ → Step
+after_numbers s p zero = p
+after_numbers s p (suc k) = number_at s true (after_numbers s p k)
 
 -- the first k numbers
 unfoldable pub numbers : List ℕ → Step → ℕ → List ℕ
 numbers s p zero = []
-numbers s p (suc k) = numbers s p k ++ ((afterNumbers s p (suc k)).value ∷ [])
+numbers s p (suc k) = numbers s p k ++ ((after_numbers s p (suc k)).value ∷ [])
 
 unfoldable pub surplus : List ℕ → Step → Step
 surplus s p = after p (pick (eqb p.at (length s)) p (refused 5 p.at))

@@ -11,48 +11,48 @@ unfoldable pub totalled : ℕ → Step → Step
 totalled total f = pick (eqb f.fault 0) (pick (leb (total + f.value) 65536) f (refused 4 f.at)) (refused f.fault f.at)
 
 -- as many bytes as the length, or short (2); after a refusal none
-unfoldable pub spanAt : List ℕ → Step → Step
-spanAt s l = pick (eqb l.fault 0) (pick (leb (l.at + l.value) (length s)) (got l.value (l.at + l.value)) (refused 2 l.at)) (refused l.fault l.at)
+unfoldable pub span_at : List ℕ → Step → Step
+span_at s l = pick (eqb l.fault 0) (pick (leb (l.at + l.value) (length s)) (got l.value (l.at + l.value)) (refused 2 l.at)) (refused l.fault l.at)
 
 -- one record, where the lengths before it come to total
 module _ (s : List ℕ) (total : ℕ) (p : Step) where
-  unfoldable pub tMap : Step
-  tMap = formed 3 (byte_at s p)
+  unfoldable pub t_map : Step
+  t_map = formed 3 (byte_at s p)
 
-  unfoldable pub tWidth : Step
-  tWidth = field_at s (bit tMap.value 1) tMap
+  unfoldable pub t_width : Step
+  t_width = field_at s (bit t_map.value 1) t_map
 
-  unfoldable pub tLength : Step
-  tLength = totalled total (field_at s (bit tMap.value 2) tWidth)
+  unfoldable pub t_length : Step
+  t_length = totalled total (field_at s (bit t_map.value 2) t_width)
 
-  unfoldable pub textHead : Head
-  textHead = record { width = tWidth.value; len = tLength }
+  unfoldable pub text_head : Head
+  text_head = record { width = t_width.value; len = t_length }
 
-  unfoldable pub tEnd : Step
-  tEnd = spanAt s tLength
+  unfoldable pub t_end : Step
+  t_end = span_at s t_length
 
   -- the text's row: display width, byte length, start
-  unfoldable pub textRow : List ℕ
-  textRow = tWidth.value ∷ tEnd.value ∷ total ∷ []
+  unfoldable pub text_row : List ℕ
+  text_row = t_width.value ∷ t_end.value ∷ total ∷ []
 
   -- the text's bytes
-  unfoldable pub textPart : List ℕ
-  textPart = take tEnd.value (drop tLength.at s)
+  unfoldable pub text_part : List ℕ
+  text_part = take t_end.value (drop t_length.at s)
 
 -- the running total and the step after the first k texts from the step p
-unfoldable pub afterTexts : List ℕ → Step → ℕ → Run
-afterTexts s p zero = record { total = 0; next = p }
-afterTexts s p (suc k) =
+unfoldable pub after_texts : List ℕ → Step → ℕ → Run
+after_texts s p zero = record { total = 0; next = p }
+after_texts s p (suc k) =
     record {
-      total = (afterTexts s p k).total + (tEnd s (afterTexts s p k).total (afterTexts s p k).next).value;
-      next = tEnd s (afterTexts s p k).total (afterTexts s p k).next;
+      total = (after_texts s p k).total + (t_end s (after_texts s p k).total (after_texts s p k).next).value;
+      next = t_end s (after_texts s p k).total (after_texts s p k).next;
     }
 
 -- the rows of the first k texts, and their bytes
-unfoldable pub textRows : List ℕ → Step → ℕ → List (List ℕ)
-textRows s p zero = []
-textRows s p (suc k) = textRows s p k ++ (textRow s (afterTexts s p k).total (afterTexts s p k).next ∷ [])
+unfoldable pub read_text_rows : List ℕ → Step → ℕ → List (List ℕ)
+read_text_rows s p zero = []
+read_text_rows s p (suc k) = read_text_rows s p k ++ (text_row s (after_texts s p k).total (after_texts s p k).next ∷ [])
 
-unfoldable pub textBytes : List ℕ → Step → ℕ → List ℕ
-textBytes s p zero = []
-textBytes s p (suc k) = textBytes s p k ++ textPart s (afterTexts s p k).total (afterTexts s p k).next
+unfoldable pub text_bytes : List ℕ → Step → ℕ → List ℕ
+text_bytes s p zero = []
+text_bytes s p (suc k) = text_bytes s p k ++ text_part s (after_texts s p k).total (after_texts s p k).next

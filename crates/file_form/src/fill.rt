@@ -9,7 +9,7 @@ use file_fields::header::header_at;
 use file_tables::{NodeId, TextId};
 
 // How many of each there are, and the root and the space text.
-#[derive(Drop)]
+#[derive(Clone, Copy)]
 pub struct Counts {
     pub nodes: u32,
     pub edges: u32,
@@ -22,7 +22,7 @@ pub struct Counts {
 }
 
 // What was counted, and the first refusal of 2 to 5 (0: none).
-#[derive(Drop)]
+#[derive(Clone, Copy)]
 pub struct Filled {
     pub counts: Counts,
     pub fault: u32,

@@ -1,10 +1,10 @@
 // Which fields a node may carry, worked out per bit by comparisons on its kind.
 ghost use Rattle.std.specs.Prelude.{◌≡◌};
-ghost use Rattle.file_form.specs.Kinds.{hasFirst, hasSecond, both, only, map_right, pairRight};
+ghost use Rattle.file_form.specs.Kinds.{has_first, has_second, both, only, map_right, pair_right};
 
 // Text, and Seq to Penalty.
 fn has_first(k: u32) -> bool
-    ensures { result ≡ hasFirst k }
+    ensures { result ≡ has_first k }
 {
     if k == 1 {
         return true;
@@ -17,7 +17,7 @@ fn has_first(k: u32) -> bool
 
 // Seq, Fill, Nest, and Choice to Penalty.
 fn has_second(k: u32) -> bool
-    ensures { result ≡ hasSecond k }
+    ensures { result ≡ has_second k }
 {
     if k < 4 {
         return false;
@@ -58,7 +58,7 @@ pub fn map_right(m: u32) -> bool
 }
 
 pub fn pair_right(m: u32, k: u32) -> bool
-    ensures { result ≡ pairRight m k }
+    ensures { result ≡ pair_right m k }
 {
     let first = only(m / 1 % 2 == 1, has_first(k));
     let second = only(m / 2 % 2 == 1, has_second(k));

@@ -1,12 +1,12 @@
 // The node records.
 ghost use Rattle.std.specs.Prelude.{◌≡◌, ◌≤◌, length, take};
-ghost use Rattle.file_form.specs.Nodes.{checked, mapAt, kind_at, nodeAt, afterNodes, nodeRows};
+ghost use Rattle.file_form.specs.Nodes.{checked, map_at, kind_at, node_at, after_nodes, read_node_rows};
 
 use crate::kinds::{map_right, pair_right};
 use file_fields::{Step, byte_at, field_at, number_at};
 
 // A node's row, and the step after its record.
-#[derive(Drop)]
+#[derive(Clone, Copy)]
 pub struct Node {
     pub row: [u32; 8],
     pub next: Step,
@@ -30,7 +30,7 @@ fn checked(ok: bool, f: Step) -> Step
 }
 
 fn map_at(s: &[u8], p: Step) -> Step
-    ensures { result ≡ mapAt s.now p }
+    ensures { result ≡ map_at s.now p }
 {
     let b = byte_at(s, p);
     checked(map_right(b.value), b)
@@ -44,7 +44,7 @@ fn kind_at(s: &[u8], m: u32, p: Step) -> Step
 }
 
 pub fn node_at(s: &[u8], p: Step) -> Node
-    ensures { result ≡ nodeAt s.now p }
+    ensures { result ≡ node_at s.now p }
 {
     let map = map_at(s, p);
     let m = map.value;
@@ -72,7 +72,7 @@ pub fn node_at(s: &[u8], p: Step) -> Node
 
 pub fn nodes_at(s: &[u8], p: Step, count: usize, t: &mut [[u32; 8]]) -> Step
     requires { count ≤ length t.old }
-    ensures { (result ≡ afterNodes s.now p count) × (take count t.new ≡ nodeRows s.now p count) }
+    ensures { (result ≡ after_nodes s.now p count) × (take count t.new ≡ read_node_rows s.now p count) }
 {
     let mut q = p;
     let mut i: usize = 0;

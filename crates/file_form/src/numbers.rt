@@ -1,12 +1,12 @@
 // The edges and the choice edges, and surplus bytes.
 ghost use Rattle.std.specs.Prelude.{◌≡◌, ◌≤◌, length, take};
-ghost use Rattle.file_form.specs.Numbers.{afterNumbers, numbers, surplus};
+ghost use Rattle.file_form.specs.Numbers.{after_numbers, numbers, surplus};
 
 use file_fields::{Step, number_at};
 
 pub fn numbers_at(s: &[u8], p: Step, count: usize, t: &mut [u32]) -> Step
     requires { count ≤ length t.old }
-    ensures { (result ≡ afterNumbers s.now p count) × (take count t.new ≡ numbers s.now p count) }
+    ensures { (result ≡ after_numbers s.now p count) × (take count t.new ≡ numbers s.now p count) }
 {
     let mut q = p;
     let mut i: usize = 0;

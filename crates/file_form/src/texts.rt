@@ -1,19 +1,19 @@
 // The text records: display width, byte length, and the bytes, which are copied one text after the other.
 ghost use Rattle.std.specs.Prelude.{◌≡◌, ◌++◌, ◌+◌, ◌≤◌, length, take, drop};
 ghost use Rattle.std.proofs.lemmas.List.Edits.{sets};
-ghost use Rattle.file_form.specs.Texts.{totalled, spanAt, textHead, afterTexts, textRows, textBytes};
+ghost use Rattle.file_form.specs.Texts.{totalled, span_at, text_head, after_texts, read_text_rows, text_bytes};
 
 use file_fields::{Step, byte_at, field_at, formed};
 
 // A text's display width, and the step after its length.
-#[derive(Drop)]
+#[derive(Clone, Copy)]
 pub struct Head {
     pub width: u32,
     pub len: Step,
 }
 
 // The lengths so far, and the step after the last text.
-#[derive(Drop)]
+#[derive(Clone, Copy)]
 pub struct Run {
     pub total: usize,
     pub next: Step,
@@ -44,7 +44,7 @@ fn totalled(total: usize, f: Step) -> Step
 
 fn text_head(s: &[u8], total: usize, p: Step) -> Head
     requires { total ≤ 65536 }
-    ensures { result ≡ textHead s.now total p }
+    ensures { result ≡ text_head s.now total p }
 {
     let map = formed(3, byte_at(s, p));
     let m = map.value;
@@ -70,7 +70,7 @@ pub fn copy(src: &[u8], dst: &mut [u8])
 
 fn text_bytes(s: &[u8], l: Step, total: usize, bytes: &mut [u8]) -> Step
     requires { total + l.value ≤ length bytes.old }
-    ensures { (result ≡ spanAt s.now l) × (bytes.new ≡ sets bytes.old total (take (spanAt s.now l).value (drop l.at s.now))) }
+    ensures { (result ≡ span_at s.now l) × (bytes.new ≡ sets bytes.old total (take (span_at s.now l).value (drop l.at s.now))) }
 {
     if l.fault != 0 {
         return Step {
@@ -106,7 +106,7 @@ fn text_bytes(s: &[u8], l: Step, total: usize, bytes: &mut [u8]) -> Step
 
 pub fn texts_at(s: &[u8], p: Step, count: usize, t: &mut [[u32; 3]], bytes: &mut [u8]) -> Run
     requires { (count ≤ length t.old) × (65536 ≤ length bytes.old) }
-    ensures { (result ≡ afterTexts s.now p count) × ((take count t.new ≡ textRows s.now p count) × (take result.total bytes.new ≡ textBytes s.now p count)) }
+    ensures { (result ≡ after_texts s.now p count) × ((take count t.new ≡ read_text_rows s.now p count) × (take result.total bytes.new ≡ text_bytes s.now p count)) }
 {
     let mut q = p;
     let mut total: usize = 0;

@@ -10,12 +10,12 @@ use lib.Seq.{take-suc, take_all, length-take-le, sets, length-sets}
 use lib.Dec.{ltb}
 use borrow.Author.Tests.{ltb-true}
 use Rattle.file_tables.specs.Tables.{kind, first, second, flat_word, choice_start, choice_length, skipped, width, byte_length, tables}
-use Rattle.file_encode.specs.Encode.{present, marked, flag, mapOf, nodeMap, textMap, headerMap, enc32, encIf, encField, encHeader, encNode, encText, encTexts, each, lengths, encode}
-use Rattle.file_encode.specs.Faults.{nodeRight, nodesFault}
+use Rattle.file_encode.specs.Encode.{present, marked, flag, map_of, node_map, text_map, header_map, enc32, enc_if, enc_field, enc_header, enc_node, enc_text, enc_texts, each, lengths, encode}
+use Rattle.file_encode.specs.Faults.{node_is_right, nodes_fault}
 use Rattle.file_put.specs.Put.{Put}
 use Rattle.file_encode.specs.Trips.{Right}
 use Rattle.file_encode.specs.TextTrip.{texts_total}
-use Rattle.file_form.specs.Kinds.{map_right, pairRight}
+use Rattle.file_form.specs.Kinds.{map_right, pair_right}
 use Rattle.file_encode.specs.Maps.{both_true}
 use Rattle.file_encode.specs.NodeTrip.{each_snoc, nodes_right_at}
 use Rattle.file_encode.specs.TextTrip.{texts_snoc, lengths_suc}
@@ -52,41 +52,41 @@ pub four : (o o₁ o₂ o₃ o₄ : List ℕ) (i a b c d : ℕ) → o₁ ≡ set
     → Put o o₄ i (i + 4) (a ∷ b ∷ c ∷ d ∷ [])
 four o o₁ o₂ o₃ o₄ i a b c d p q r s = record { bytes = rw (s, r, q, p) (sets4 o i a b c d); next = omega arith }
 
-pub if_on : (o o₁ : List ℕ) (at r v : ℕ) (on : Bool) → on ≡ true → Put o o₁ at r (enc32 v) → Put o o₁ at r (encIf on v) × (r ≤ at + 4)
+pub if_on : (o o₁ : List ℕ) (at r v : ℕ) (on : Bool) → on ≡ true → Put o o₁ at r (enc32 v) → Put o o₁ at r (enc_if on v) × (r ≤ at + 4)
 if_on o o₁ at r v on e p = rw e (p, omega (arith, p.next))
 
-pub if_off : (o : List ℕ) (at v : ℕ) (on : Bool) → on ≡ false → Put o o at at (encIf on v) × (at ≤ at + 4)
+pub if_off : (o : List ℕ) (at v : ℕ) (on : Bool) → on ≡ false → Put o o at at (enc_if on v) × (at ≤ at + 4)
 if_off o at v on e = rw e (none o at, omega arith)
 
 pub put_length : {o o₁ e : List ℕ} {i r : ℕ} → Put o o₁ i r e → length o₁ ≡ length o
 put_length {o} {o₁} {e} {i} p = ap length p.bytes ∙ length-sets o i e
 
-pub text_map_is : (row : List ℕ) (a b : ℕ) → a ≡ flag (present (width row)) → b ≡ flag (present (byte_length row)) → a + b * 2 ≡ textMap row
-unfolding textMap mapOf
+pub text_map_is : (row : List ℕ) (a b : ℕ) → a ≡ flag (present (width row)) → b ≡ flag (present (byte_length row)) → a + b * 2 ≡ text_map row
+unfolding text_map map_of
 text_map_is row a b ea eb = rw (ea, eb) (omega arith)
 
 pub header_map_is : (n e x a c r w f₁ f₂ f₃ f₄ f₅ f₆ f₇ : ℕ)
     → f₁ ≡ flag (present n) → f₂ ≡ flag (present e) → f₃ ≡ flag (present x) → f₄ ≡ flag (present a)
     → f₅ ≡ flag (present c) → f₆ ≡ flag (present r) → f₇ ≡ flag (present w)
-    → f₁ + f₂ * 2 + f₃ * 4 + f₄ * 8 + f₅ * 16 + f₆ * 32 + f₇ * 64 ≡ headerMap n e x a c r w
-unfolding headerMap mapOf
+    → f₁ + f₂ * 2 + f₃ * 4 + f₄ * 8 + f₅ * 16 + f₆ * 32 + f₇ * 64 ≡ header_map n e x a c r w
+unfolding header_map map_of
 header_map_is n e x a c r w f₁ f₂ f₃ f₄ f₅ f₆ f₇ e₁ e₂ e₃ e₄ e₅ e₆ e₇ = rw (e₁, e₂, e₃, e₄, e₅, e₆, e₇) (omega arith)
 
 -- a node's bytes: two bytes, then six fields
 pub node_put : (row : List ℕ) (o o₁ o₂ : List ℕ) (at m : ℕ) {o₃ o₄ o₅ o₆ o₇ o₈ : List ℕ} {a b c d e r : ℕ}
-    → m ≡ nodeMap row
+    → m ≡ node_map row
     → o₁ ≡ set o at m
     → o₂ ≡ set o₁ (at + 1) (kind row)
-    → Put o₂ o₃ (at + 2) a (encField (first row)) × (a ≤ at + 2 + 4)
-    → Put o₃ o₄ a b (encField (second row)) × (b ≤ a + 4)
-    → Put o₄ o₅ b c (encIf (marked row) (flat_word row)) × (c ≤ b + 4)
-    → Put o₅ o₆ c d (encField (choice_start row)) × (d ≤ c + 4)
-    → Put o₆ o₇ d e (encField (choice_length row)) × (e ≤ d + 4)
-    → Put o₇ o₈ e r (encField (skipped row)) × (r ≤ e + 4)
-    → Put o o₈ at r (encNode row) × (r ≤ at + 26)
-unfolding encNode
+    → Put o₂ o₃ (at + 2) a (enc_field (first row)) × (a ≤ at + 2 + 4)
+    → Put o₃ o₄ a b (enc_field (second row)) × (b ≤ a + 4)
+    → Put o₄ o₅ b c (enc_if (marked row) (flat_word row)) × (c ≤ b + 4)
+    → Put o₅ o₆ c d (enc_field (choice_start row)) × (d ≤ c + 4)
+    → Put o₆ o₇ d e (enc_field (choice_length row)) × (e ≤ d + 4)
+    → Put o₇ o₈ e r (enc_field (skipped row)) × (r ≤ e + 4)
+    → Put o o₈ at r (enc_node row) × (r ≤ at + 26)
+unfolding enc_node
 node_put row o o₁ o₂ at m em p q f₁ f₂ f₃ f₄ f₅ f₆ =
-    let two : Put o o₂ at (at + 2) (nodeMap row ∷ kind row ∷ []) =
+    let two : Put o o₂ at (at + 2) (node_map row ∷ kind row ∷ []) =
     rw (← em) (record { bytes = q ∙ rw (p, add-one at); next = omega arith }) in (
       and_then two (and_then f₁.0 (and_then f₂.0 (and_then f₃.0 (and_then f₄.0 (and_then f₅.0 f₆.0))))),
       omega (arith, f₁.1, f₂.1, f₃.1, f₄.1, f₅.1, f₆.1),
@@ -94,43 +94,43 @@ node_put row o o₁ o₂ at m em p q f₁ f₂ f₃ f₄ f₅ f₆ =
 
 -- a header's bytes: one byte, then seven fields
 pub header_put : (n e x a c r w : ℕ) (o o₁ : List ℕ) (m : ℕ) {o₂ o₃ o₄ o₅ o₆ o₇ o₈ : List ℕ} {p₁ p₂ p₃ p₄ p₅ p₆ q : ℕ}
-    → m ≡ headerMap n e x a c r w
+    → m ≡ header_map n e x a c r w
     → o₁ ≡ set o 0 m
-    → Put o₁ o₂ 1 p₁ (encField n) × (p₁ ≤ 1 + 4)
-    → Put o₂ o₃ p₁ p₂ (encField e) × (p₂ ≤ p₁ + 4)
-    → Put o₃ o₄ p₂ p₃ (encField x) × (p₃ ≤ p₂ + 4)
-    → Put o₄ o₅ p₃ p₄ (encField a) × (p₄ ≤ p₃ + 4)
-    → Put o₅ o₆ p₄ p₅ (encField c) × (p₅ ≤ p₄ + 4)
-    → Put o₆ o₇ p₅ p₆ (encField r) × (p₆ ≤ p₅ + 4)
-    → Put o₇ o₈ p₆ q (encField w) × (q ≤ p₆ + 4)
-    → Put o o₈ 0 q (encHeader n e x a c r w) × (q ≤ 29)
-unfolding encHeader
+    → Put o₁ o₂ 1 p₁ (enc_field n) × (p₁ ≤ 1 + 4)
+    → Put o₂ o₃ p₁ p₂ (enc_field e) × (p₂ ≤ p₁ + 4)
+    → Put o₃ o₄ p₂ p₃ (enc_field x) × (p₃ ≤ p₂ + 4)
+    → Put o₄ o₅ p₃ p₄ (enc_field a) × (p₄ ≤ p₃ + 4)
+    → Put o₅ o₆ p₄ p₅ (enc_field c) × (p₅ ≤ p₄ + 4)
+    → Put o₆ o₇ p₅ p₆ (enc_field r) × (p₆ ≤ p₅ + 4)
+    → Put o₇ o₈ p₆ q (enc_field w) × (q ≤ p₆ + 4)
+    → Put o o₈ 0 q (enc_header n e x a c r w) × (q ≤ 29)
+unfolding enc_header
 header_put n e x a c r w o o₁ m em p f₁ f₂ f₃ f₄ f₅ f₆ f₇ =
-    let one_byte : Put o o₁ 0 1 (headerMap n e x a c r w ∷ []) = rw (← em) (record { bytes = p; next = refl }) in (
+    let one_byte : Put o o₁ 0 1 (header_map n e x a c r w ∷ []) = rw (← em) (record { bytes = p; next = refl }) in (
       and_then one_byte (and_then f₁.0 (and_then f₂.0 (and_then f₃.0 (and_then f₄.0 (and_then f₅.0 (and_then f₆.0 f₇.0)))))),
       omega (arith, f₁.1, f₂.1, f₃.1, f₄.1, f₅.1, f₆.1, f₇.1),
     )
 
 -- a text's bytes: one byte, two fields, and its part
 pub text_put : (row part o o₁ : List ℕ) (at m : ℕ) {o₂ o₃ o₄ : List ℕ} {a b r : ℕ}
-    → m ≡ textMap row
+    → m ≡ text_map row
     → o₁ ≡ set o at m
-    → Put o₁ o₂ (at + 1) a (encField (width row)) × (a ≤ at + 1 + 4)
-    → Put o₂ o₃ a b (encField (byte_length row)) × (b ≤ a + 4)
+    → Put o₁ o₂ (at + 1) a (enc_field (width row)) × (a ≤ at + 1 + 4)
+    → Put o₂ o₃ a b (enc_field (byte_length row)) × (b ≤ a + 4)
     → Put o₃ o₄ b r part
-    → Put o o₄ at r (encText row part) × (r ≤ at + 9 + length part)
-unfolding encText
+    → Put o o₄ at r (enc_text row part) × (r ≤ at + 9 + length part)
+unfolding enc_text
 text_put row part o o₁ at m em p f₁ f₂ f₃ =
-    let one_byte : Put o o₁ at (at + 1) (textMap row ∷ []) = rw (← em) (one o o₁ at m p) in
+    let one_byte : Put o o₁ at (at + 1) (text_map row ∷ []) = rw (← em) (one o o₁ at m p) in
     (and_then one_byte (and_then f₁.0 (and_then f₂.0 f₃)), omega (arith, f₁.1, f₂.1, f₃.next))
 
 -- ---- one turn of each loop
 
 pub nodes_turn : (o o₁ o₂ : List ℕ) (at next r : ℕ) (rows : List (List ℕ)) (i : ℕ)
-    → Put o o₁ at next (each encNode (take i rows)) → i < length rows → Put o₁ o₂ next r (encNode (get_or rows i []))
-    → Put o o₂ at r (each encNode (take (i + 1) rows))
+    → Put o o₁ at next (each enc_node (take i rows)) → i < length rows → Put o₁ o₂ next r (enc_node (get_or rows i []))
+    → Put o o₂ at r (each enc_node (take (i + 1) rows))
 nodes_turn o o₁ o₂ at next r rows i p h q =
-    rw (add-one i, take-suc rows i [] h, each_snoc encNode (take i rows) (get_or rows i [])) (and_then p q)
+    rw (add-one i, take-suc rows i [] h, each_snoc enc_node (take i rows) (get_or rows i [])) (and_then p q)
 
 pub numbers_turn : (o o₁ o₂ : List ℕ) (at next r : ℕ) (xs : List ℕ) (i : ℕ)
     → Put o o₁ at next (each enc32 (take i xs)) → i < length xs → Put o₁ o₂ next r (enc32 (get_or xs i 0))
@@ -146,21 +146,21 @@ bytes_turn o o₁ o₂ at part i p h q =
     rw (add-one i, take-suc part i 0 h) (rw (← add-one i, ← e) (and_then p (one o₁ o₂ (at + i) (get_or part i 0) q)))
 
 pub texts_turn : (o o₁ o₂ : List ℕ) (at next r : ℕ) (rows : List (List ℕ)) (bytes : List ℕ) (i total len : ℕ)
-    → Put o o₁ at next (encTexts (take i rows) bytes) → total ≡ lengths (take i rows) → len ≡ byte_length (get_or rows i []) → i < length rows
-    → Put o₁ o₂ next r (encText (get_or rows i []) (take len (drop total bytes)))
-    → Put o o₂ at r (encTexts (take (i + 1) rows) bytes) × (total + len ≡ lengths (take (i + 1) rows))
+    → Put o o₁ at next (enc_texts (take i rows) bytes) → total ≡ lengths (take i rows) → len ≡ byte_length (get_or rows i []) → i < length rows
+    → Put o₁ o₂ next r (enc_text (get_or rows i []) (take len (drop total bytes)))
+    → Put o o₂ at r (enc_texts (take (i + 1) rows) bytes) × (total + len ≡ lengths (take (i + 1) rows))
 texts_turn o o₁ o₂ at next r rows bytes i total len p et el h q = (
   rw (add-one i, take-suc rows i [] h, texts_snoc (take i rows) (get_or rows i []) bytes) (and_then p (rw (et, el) at q)),
   rw (add-one i, et, el) (sym (lengths_suc rows i h)),
 )
 
 -- a row that is right has a kind of one byte
-pub kind_byte : (rows : List (List ℕ)) (i : ℕ) → nodesFault rows ≡ 0 → i < length rows → kind (get_or rows i []) < 256
-unfolding nodeRight pairRight
+pub kind_byte : (rows : List (List ℕ)) (i : ℕ) → nodes_fault rows ≡ 0 → i < length rows → kind (get_or rows i []) < 256
+unfolding node_is_right pair_right
 kind_byte rows i e h =
     let row = get_or rows i [] in
-    let b₁ = both_true (map_right (nodeMap row)) _ (nodes_right_at rows i e h) in
-    let b₂ = both_true (pairRight (nodeMap row) (kind row)) _ b₁.1 in
+    let b₁ = both_true (map_right (node_map row)) _ (nodes_right_at rows i e h) in
+    let b₂ = both_true (pair_right (node_map row) (kind row)) _ b₁.1 in
     let b₃ = both_true (ltb (kind row) 12) _ b₂.0 in
     omega (arith, ltb-true (kind row) 12 b₃.0)
 
@@ -170,24 +170,24 @@ part_length bytes total len h =
     let e : total + len - total ≡ len = omega arith in
     rw e (length-take-le len (drop total bytes) (simp length-drop (omega arith)))
 
-pub part_is : {o o₁ : List ℕ} {at r : ℕ} (row bytes : List ℕ) (total len : ℕ) → Put o o₁ at r (encText row (take (total + len - total) (drop total bytes)))
-    → Put o o₁ at r (encText row (take len (drop total bytes)))
+pub part_is : {o o₁ : List ℕ} {at r : ℕ} (row bytes : List ℕ) (total len : ℕ) → Put o o₁ at r (enc_text row (take (total + len - total) (drop total bytes)))
+    → Put o o₁ at r (enc_text row (take len (drop total bytes)))
 part_is row bytes total len p = let e : total + len - total ≡ len = omega arith in rw e at p
 
 pub texts_whole : (o o₁ : List ℕ) (at next : ℕ) (rows : List (List ℕ)) (bytes : List ℕ) (i total : ℕ) → i ≡ length rows → length bytes ≡ lengths rows
-    → Put o o₁ at next (encTexts (take i rows) bytes) → next ≤ at + 9 * i + total → total ≡ lengths (take i rows)
-    → Put o o₁ at next (encTexts rows bytes) × (next ≤ at + 9 * length rows + length bytes)
+    → Put o o₁ at next (enc_texts (take i rows) bytes) → next ≤ at + 9 * i + total → total ≡ lengths (take i rows)
+    → Put o o₁ at next (enc_texts rows bytes) × (next ≤ at + 9 * length rows + length bytes)
 texts_whole o o₁ at next rows bytes i total e l p n t =
     let g : take i rows ≡ rows = take_all i rows (omega arith) in
     (rw g at p, omega (arith, t, ap lengths g, l, n, e))
 
 -- the parts of a whole file
 pub tables_put : (ns : List (List ℕ)) (es xs : List ℕ) (ts : List (List ℕ)) (bs : List ℕ) (a r w : ℕ) {o o₁ o₂ o₃ o₄ o₅ : List ℕ} {p q u v z : ℕ}
-    → Put o o₁ 0 p (encHeader (length ns) (length es) (length ts) a (length xs) r w) × (p ≤ 29)
-    → Put o₁ o₂ p q (each encNode ns) × (q ≤ p + 26 * length ns)
+    → Put o o₁ 0 p (enc_header (length ns) (length es) (length ts) a (length xs) r w) × (p ≤ 29)
+    → Put o₁ o₂ p q (each enc_node ns) × (q ≤ p + 26 * length ns)
     → Put o₂ o₃ q u (each enc32 es) × (u ≤ q + 4 * length es)
     → Put o₃ o₄ u v (each enc32 xs) × (v ≤ u + 4 * length xs)
-    → Put o₄ o₅ v z (encTexts ts bs) × (z ≤ v + 9 * length ts + length bs)
+    → Put o₄ o₅ v z (enc_texts ts bs) × (z ≤ v + 9 * length ts + length bs)
     → Right (tables ns es xs ts bs a r w)
     → length bs ≡ lengths ts
     → Put o o₅ 0 z (encode (tables ns es xs ts bs a r w)) × (z ≤ 339997)

@@ -1,9 +1,11 @@
 // The writer's bytes: tables put one after the other. A byte that has no place is not put.
+#![tactic(auto)]
+
 ghost use Rattle.std.specs.Prelude.{◌≡◌, ◌+◌, ◌*◌, ◌≤◌, ◌<◌, length, set};
 ghost use Rattle.file_tables.specs.Tables.{kind, tables};
 ghost use Rattle.file_put.specs.Put.{Put};
-ghost use Rattle.file_encode.specs.Encode.{enc32, encIf, headerMap, encHeader, encNode, textMap, encText, encTexts, each, lengths, encode};
-ghost use Rattle.file_encode.specs.Faults.{nodesFault, textsFault, tablesFault};
+ghost use Rattle.file_encode.specs.Encode.{enc32, enc_if, header_map, enc_header, enc_node, text_map, enc_text, enc_texts, each, lengths, encode};
+ghost use Rattle.file_encode.specs.Faults.{nodes_fault, texts_fault, tables_fault};
 
 use file_encode::faults::{flag, long, node_map};
 
@@ -28,7 +30,7 @@ fn put_word(out: &mut [u8], at: usize, v: u32) -> usize
 
 fn put_if(out: &mut [u8], at: usize, on: bool, v: u32) -> usize
     requires { at ≤ 1000000 }
-    ensures { Put out.old out.new at result (encIf on v) × (result ≤ at + 4) }
+    ensures { Put out.old out.new at result (enc_if on v) × (result ≤ at + 4) }
 {
     if on {
         return put_word(out, at, v);
@@ -38,7 +40,7 @@ fn put_if(out: &mut [u8], at: usize, on: bool, v: u32) -> usize
 
 fn put_node(out: &mut [u8], at: usize, row: [u32; 8]) -> usize
     requires { (at ≤ 900000) × (kind row < 256) }
-    ensures { Put out.old out.new at result (encNode row) × (result ≤ at + 26) }
+    ensures { Put out.old out.new at result (enc_node row) × (result ≤ at + 26) }
 {
     let m = node_map(row);
     put(out, at, m as u8);
@@ -52,8 +54,8 @@ fn put_node(out: &mut [u8], at: usize, row: [u32; 8]) -> usize
 }
 
 fn put_nodes(out: &mut [u8], at: usize, nodes: &[[u32; 8]]) -> usize
-    requires { (at ≤ 100) × ((length nodes.now ≤ 4096) × (nodesFault nodes.now ≡ 0)) }
-    ensures { Put out.old out.new at result (each encNode nodes.now) × (result ≤ at + 26 * length nodes.now) }
+    requires { (at ≤ 100) × ((length nodes.now ≤ 4096) × (nodes_fault nodes.now ≡ 0)) }
+    ensures { Put out.old out.new at result (each enc_node nodes.now) × (result ≤ at + 26 * length nodes.now) }
 {
     let mut next = at;
     let mut i: usize = 0;
@@ -91,7 +93,7 @@ fn put_bytes(out: &mut [u8], at: usize, part: &[u8]) -> usize
 }
 
 fn text_map(row: [u32; 3]) -> u32
-    ensures { (result ≡ textMap row) × (result ≤ 3) }
+    ensures { (result ≡ text_map row) × (result ≤ 3) }
 {
     let a = flag(0 < row[0]);
     let b = flag(0 < row[1]);
@@ -100,7 +102,7 @@ fn text_map(row: [u32; 3]) -> u32
 
 fn put_text(out: &mut [u8], at: usize, row: [u32; 3], part: &[u8]) -> usize
     requires { (at ≤ 800000) × (length part.now ≤ 65536) }
-    ensures { Put out.old out.new at result (encText row part.now) × (result ≤ at + 9 + length part.now) }
+    ensures { Put out.old out.new at result (enc_text row part.now) × (result ≤ at + 9 + length part.now) }
 {
     let m = text_map(row);
     put(out, at, m as u8);
@@ -110,8 +112,8 @@ fn put_text(out: &mut [u8], at: usize, row: [u32; 3], part: &[u8]) -> usize
 }
 
 fn put_texts(out: &mut [u8], at: usize, texts: &[[u32; 3]], bytes: &[u8]) -> usize
-    requires { (at ≤ 400000) × ((length texts.now ≤ 4096) × ((textsFault 0 texts.now ≡ 0) × (length bytes.now ≡ lengths texts.now))) }
-    ensures { Put out.old out.new at result (encTexts texts.now bytes.now) × (result ≤ at + 9 * length texts.now + length bytes.now) }
+    requires { (at ≤ 400000) × ((length texts.now ≤ 4096) × ((texts_fault 0 texts.now ≡ 0) × (length bytes.now ≡ lengths texts.now))) }
+    ensures { Put out.old out.new at result (enc_texts texts.now bytes.now) × (result ≤ at + 9 * length texts.now + length bytes.now) }
 {
     let mut next = at;
     let mut total: usize = 0;
@@ -128,7 +130,7 @@ fn put_texts(out: &mut [u8], at: usize, texts: &[[u32; 3]], bytes: &[u8]) -> usi
 }
 
 fn header_map(n: u32, e: u32, x: u32, a: u32, c: u32, r: u32, w: u32) -> u32
-    ensures { (result ≡ headerMap n e x a c r w) × (result ≤ 127) }
+    ensures { (result ≡ header_map n e x a c r w) × (result ≤ 127) }
 {
     let f1 = flag(0 < n);
     let f2 = flag(0 < e);
@@ -141,7 +143,7 @@ fn header_map(n: u32, e: u32, x: u32, a: u32, c: u32, r: u32, w: u32) -> u32
 }
 
 fn put_header(out: &mut [u8], n: u32, e: u32, x: u32, a: u32, c: u32, r: u32, w: u32) -> usize
-    ensures { Put out.old out.new 0 result (encHeader n e x a c r w) × (result ≤ 29) }
+    ensures { Put out.old out.new 0 result (enc_header n e x a c r w) × (result ≤ 29) }
 {
     let m = header_map(n, e, x, a, c, r, w);
     put(out, 0, m as u8);
@@ -166,7 +168,7 @@ pub fn put_tables(
     root: u32,
     space: u32,
 ) -> usize
-    requires space_value { tablesFault (tables nodes.now edges.now choices.now texts.now bytes.now annotations root space) ≡ 0 }
+    requires space_value { tables_fault (tables nodes.now edges.now choices.now texts.now bytes.now annotations root space) ≡ 0 }
     requires bytes_len { length bytes.now ≡ lengths texts.now }
     ensures { Put out.old out.new 0 result (encode (tables nodes.now edges.now choices.now texts.now bytes.now annotations root space)) × (result ≤ 339997) }
 {

@@ -1,15 +1,17 @@
 // The tables of a prepared file: the numbers by which they refer to each other, each its own type (from laidout's prepare.rs), and reads of their rows
 // that are total: past a table's end the words are zeros, as in the definitions.
+#![tactic(auto)]
+
 ghost use Rattle.std.specs.Prelude.{◌≡◌, [], ◌<◌, get_or};
 ghost use Rattle.file_tables.specs.Tables.{RowIs};
 
-#[derive(Drop)]
+#[derive(Clone, Copy)]
 pub struct NodeId(pub u32);
 
-#[derive(Drop)]
+#[derive(Clone, Copy)]
 pub struct TextId(pub u32);
 
-#[derive(Drop)]
+#[derive(Clone, Copy)]
 pub struct AnnotationId(pub u32);
 
 // The row of a node.

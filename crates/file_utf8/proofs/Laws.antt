@@ -1,23 +1,21 @@
 -- What one byte makes of what is wanted, and the loop over a text.
 use mathlib.Core.Path.{◌≡◌, refl, sym, ap, ◌∙◌, subst}
-use mathlib.Core.Bool.{Bool, true, false, false≢true}
-use mathlib.Core.Logic.{◌↔◌}
+use mathlib.Core.Bool.{Bool, false, false≢true}
 use mathlib.Core.List.{List, [], ◌∷◌}
 use Prim.Native.Nat.{ℕ, zero, suc, ◌+◌, ◌-◌, ◌≤◌, ◌<◌}
 use native.Mathlib.Omega.{arith}
 use native.Mathlib.Numerals.{add-one}
 use lib.Dec.{eqb}
-use lib.ListN.{length, get_or, drop, drop_of_length-le}
+use lib.ListN.{length, get_or, drop}
 use borrow.Author.Tests.{ne_eqb}
 use lib.Seq.{drop-cons}
-use Rattle.file_utf8.specs.Told.{Told}
-use Rattle.file_utf8.specs.Tells.{tell_iff}
 use Rattle.file_utf8.specs.declared.Wanted.{Wanted}
 use Rattle.file_utf8.specs.declared.Followed.{Followed}
 use Rattle.file_utf8.specs.declared.Followed.TheVariants.{Wants, Ill}
 use Rattle.file_utf8.specs.Utf8.{Utf8}
 use Rattle.file_utf8.specs.Bytewise.{more, low, high, rest, well}
-use Rattle.file_utf8.specs.Rows.{rest_ascii, rest_none, rest_first, rest_low, rest_high, rest_next, utf8_well}
+use Rattle.file_utf8.specs.Rows.{rest_ascii, rest_none, rest_first, rest_low, rest_high, rest_next}
+use Rattle.file_utf8.proofs.Rows.{utf8_well}
 use Rattle.file_utf8.specs.Follows.{start, wants, FollowsCase, Follows}
 
 -- ---- a first byte
@@ -82,15 +80,10 @@ so_on text w z k r i h f e =
     record { inside = omega arith; same = i.same ∙ (ap (wants w) (at_k text k h) ∙ case_of w (get_or text k 0) r (Wants z) f e (drop (k + 1) text)) }
 
 -- nothing more is wanted
-abbrev full : ℕ → Bool
+abbrev pub full : ℕ → Bool
 full n = eqb n 0
 
-at_end : (n l h : ℕ) → rest n l h [] ≡ full n
+pub at_end : (n l h : ℕ) → rest n l h [] ≡ full n
 unfolding rest
 at_end zero l h = refl
 at_end (suc n) l h = sym (ne_eqb (suc n) 0 (λ e. omega (arith, e)))
-
-pub so_end : (text : List ℕ) (w : Wanted) (k : ℕ) → So text w k → length text ≤ k → Told (Utf8 text) (full w.left)
-so_end text w k i h =
-    let e : well text ≡ full w.left = i.same ∙ (ap (wants w) (drop_of_length-le text h) ∙ at_end w.left w.low w.high) in
-    tell_iff (full w.left) (subst (λ (b : Bool). Utf8 text ↔ (b ≡ true)) e (utf8_well text))

@@ -1,4 +1,6 @@
 // Whether bytes are well-formed UTF-8 (RFC 3629).
+#![tactic(auto)]
+
 ghost use Rattle.std.specs.Prelude.{◌≡◌};
 ghost use Rattle.file_utf8.specs.Told.{Told};
 ghost use Rattle.file_utf8.specs.Bytewise;
@@ -6,7 +8,7 @@ ghost use Rattle.file_utf8.specs.Utf8.{Utf8};
 ghost use Rattle.file_utf8.specs.Follows.{start, Follows};
 
 // How many bytes of a character are still to come, and between which the next of them is.
-#[derive(Drop)]
+#[derive(Clone, Copy)]
 pub struct Wanted {
     pub left: u32,
     pub low: u8,
@@ -14,7 +16,7 @@ pub struct Wanted {
 }
 
 // What is wanted after a byte.
-#[derive(Drop)]
+#[derive(Clone, Copy)]
 pub enum Followed {
     Wants(Wanted),
     Ill,

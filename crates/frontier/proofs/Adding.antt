@@ -1,7 +1,7 @@
 -- A new candidate: a slot is taken and filled, put last in the order, and put into the tree.
 use mathlib.Core.Path.{◌≡◌, refl, sym, ◌∙◌, ap, subst}
 use mathlib.Core.Logic.{◌≢◌, ◌⊎◌, inl, inr, ⊎_elim}
-use mathlib.Core.List.{List, [], ◌∷◌, ◌++◌, append_nil}
+use mathlib.Core.List.{List, [], ◌∷◌, ◌++◌, append-nil}
 use Prim.Native.Nat.{ℕ, ◌+◌, ◌<◌}
 use native.Mathlib.Omega.{arith}
 use lib.ListN.{length, length-append}
@@ -112,10 +112,10 @@ module _ {m : List ℕ} {b : Builder} {k : ℕ} (p : Admit m b k) {s free used :
       seg = seg_same o q nil h (a.order ++ s ∷ []) l nil u.frame.len (λ v j w d. u.frame.rest v j (omega arith)) c.seg;
       spare = spare_same n q free g.frees (u.frame.len ∙ c.frame.len) (λ v. u.frame.rest v 10 (lit< tt) ∙ c.frame.rest v 10 (lit< tt) (omega arith) (omega arith)) (spare_out m n s f.len f.other free g.frees g.once.0 g.spare);
       once_t = subst (λ z. Once z) (sym pl.whole_is) (once_more s pl.us pl.bs (subst (λ z. Once z) pl.less_is a.once_t) (subst (λ z. Out s z) pl.less_is out_slots));
-      once = once_more s a.order [] (subst (λ z. Once z) (sym (append_nil a.order)) a.once) (subst (λ z. Out s z) (sym (append_nil a.order)) g.out);
+      once = once_more s a.order [] (subst (λ z. Once z) (sym (append-nil a.order)) a.once) (subst (λ z. Out s z) (sym (append-nil a.order)) g.out);
       once_free = g.once.1;
       apart = apart_by (a.order ++ s ∷ []) g.frees (λ y i. ⊎_elim (λ (z : y ≡ s). subst (λ w. Out w g.frees) (sym z) g.once.0) (λ w. apart_of y a.order g.frees w g.apart) (old y i));
-      agree = subst (λ z. Same z (a.order ++ s ∷ [])) (sym pl.whole_is) (same_more s pl.us pl.bs a.order [] (subst (λ z. Same z (a.order ++ [])) pl.less_is (subst (λ z. Same (slots a.t) z) (sym (append_nil a.order)) a.agree)));
+      agree = subst (λ z. Same z (a.order ++ s ∷ [])) (sym pl.whole_is) (same_more s pl.us pl.bs a.order [] (subst (λ z. Same z (a.order ++ [])) pl.less_is (subst (λ z. Same (slots a.t) z) (sym (append-nil a.order)) a.agree)));
       count = omega (arith, a.count, long);
       sum = omega (arith, g.sum, long);
       low = λ y i. ⊎_elim (λ (z : y ≡ s). subst (λ w. w < used) (sym z) g.own) (λ w. g.low y w) (old y i);
@@ -140,7 +140,7 @@ module _ {m : List ℕ} {b : Builder} {k : ℕ} (p : Admit m b k) {s free used :
       long = length-append p.roomy.kept.order (s ∷ [])
 
       old : (y : ℕ) → In y (p.roomy.kept.order ++ s ∷ []) → (y ≡ s) ⊎ In y p.roomy.kept.order
-      old y i = ⊎_elim (λ e. inl e) (λ w. inr (subst (λ z. In y z) (append_nil p.roomy.kept.order) w)) (in_case y s p.roomy.kept.order [] i)
+      old y i = ⊎_elim (λ e. inl e) (λ w. inr (subst (λ z. In y z) (append-nil p.roomy.kept.order) w)) (in_case y s p.roomy.kept.order [] i)
 
       lens : length q ≡ length m
       lens = u.frame.len ∙ (c.frame.len ∙ f.len)

@@ -8,7 +8,8 @@ use native.Mathlib.Omega.{arith}
 use lib.ListN.{length}
 use borrow.Author.Tests.{eq-eqb, ne_eqb, lt-ltb, le-ltb}
 use Rattle.cost.specs.Cost.{Cost, cheap, cheaper}
-use Rattle.cost.specs.Order.{Cheap, cheap_is, is_cheap, not_cheap}
+use Rattle.cost.specs.Order.{Cheap, cheap_is, is_cheap}
+use Rattle.cost.proofs.Order.{not_cheap}
 use Rattle.cost.specs.Logic.{no_both, or_cases, or_left, or_right, not_true, not_false, false_if}
 use Rattle.layout.specs.Frontier.{Cand, covers, any, keep, cons_if}
 use Rattle.avl.specs.TreeLaws.{lt_or}

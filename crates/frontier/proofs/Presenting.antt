@@ -2,7 +2,7 @@
 use mathlib.Core.Path.{◌≡◌, refl, sym, ◌∙◌, ap, subst}
 use mathlib.Core.Logic.{◌≢◌, ◌⊎◌, inl, inr, ⊎_elim}
 use mathlib.Core.Bool.{true, false, not}
-use mathlib.Core.List.{List, [], ◌∷◌, ◌++◌, map, append_nil}
+use mathlib.Core.List.{List, [], ◌∷◌, ◌++◌, map, append-nil}
 use Prim.Native.Nat.{ℕ, ◌+◌, ◌-◌, ◌≤◌, ◌<◌}
 use native.Mathlib.Omega.{arith}
 use lib.ListN.{length, length-append}
@@ -98,7 +98,7 @@ module _ {m : List ℕ} {size : ℕ} {b : Builder} (p : Frontier m size b) (x : 
     as_is y i = candidate_same m₁ m₂ y (λ j l. u.rest y j (other y i) l) ∙ as_was y
 
     which : (y : ℕ) → In y u.kept.order → (y ≡ u.s) ⊎ In y z.sound.kept.order
-    which y i = ⊎_elim (λ e. inl e) (λ w. inr (subst (λ v. In y v) (append_nil z.sound.kept.order) w)) (in_case y u.s z.sound.kept.order [] (subst (λ w. In y w) u.order_is i))
+    which y i = ⊎_elim (λ e. inl e) (λ w. inr (subst (λ v. In y v) (append-nil z.sound.kept.order) w)) (in_case y u.s z.sound.kept.order [] (subst (λ w. In y w) u.order_is i))
 
     -- the new one
     mine : (y : ℕ) → y ≡ u.s → candidate_at m₂ y ≡ x

@@ -13,7 +13,7 @@ use Rattle.cost.specs.Order.{cheap_trans, cheap_is, is_cheap}
 use Rattle.cost.specs.Logic.{no_both, same_test, or_left, or_right, false_if}
 use Rattle.layout.specs.Frontier.{Cand, covers, any, keep}
 use Rattle.layout.specs.Covers.{covers_is}
-use Rattle.layout.specs.Least.{cheaper_by}
+use Rattle.layout.proofs.Least.{cheaper_by}
 use Rattle.avl.specs.Mem.{word, At}
 use Rattle.avl.specs.Tree.{Tree, same_of, before_of, from_of, Seen, slots, Entry}
 use Rattle.avl.specs.Tree.Tree.{leaf, node}

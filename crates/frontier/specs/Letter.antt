@@ -6,12 +6,12 @@ use mathlib.Core.List.Memᴰ.{tail as there}
 use mathlib.Core.List.{Memᴰ as Member}
 use Rattle.cost.specs.Logic.{no_both, and_left, and_right, not_true, false_if}
 use Rattle.cost.specs.Order.{Cheap}
-use Rattle.layout.specs.Frontier.{Cand, covers, present}
+use Rattle.layout.specs.Frontier.{Cand, covers}
 use Rattle.layout.specs.Pruning.{presents}
 use Rattle.layout.specs.Sieve.{lt, Level}
 use Rattle.layout.specs.Covers.{covers_is, is_covers}
 use Rattle.layout.specs.Listed.{map_in}
-use Rattle.layout.specs.Letter.{presents_is}
+use Rattle.layout.proofs.Letter.{presents_is}
 use Rattle.avl.specs.Members.{In}
 use Rattle.frontier.specs.declared.Builder.{Builder}
 use Rattle.frontier.specs.Candidates.{Pending, candidate_at, survivors}

@@ -1,5 +1,7 @@
 // The frontier of candidates in lent words, fourteen a slot: a tree by last column, the order of presentation, and the slots that are free again
 // (laidout's FrontierSlot; document 01, "Candidate and frontier"). Counts, sizes and plans are crate solve_builder's.
+#![tactic(auto)]
+
 mod order;
 
 ghost use Rattle.std.specs.Prelude.{◌≡◌, ◌≢◌};
@@ -39,7 +41,7 @@ const NEXT: u64 = 9;
 const FREE_NEXT: u64 = 10;
 
 // A candidate that is presented: its pending plan is a kind and two words, which the solver gives a meaning.
-#[derive(Drop)]
+#[derive(Clone, Copy)]
 pub struct ScratchCandidate {
     pub cost: ConsumerCost,
     pub last: u32,
@@ -50,7 +52,7 @@ pub struct ScratchCandidate {
 }
 
 // The registers of a frontier: links to the tree, to the ends of the order and to the free slots; the slots used so far; the candidates kept.
-#[derive(Drop)]
+#[derive(Clone, Copy)]
 pub struct Builder {
     pub root: u64,
     pub head: u64,
@@ -61,7 +63,7 @@ pub struct Builder {
 }
 
 // What became of a presented candidate: the frontier as it is then and how many were pruned; or how many slots it would take.
-#[derive(Drop)]
+#[derive(Clone, Copy)]
 pub enum Presented {
     Done(Builder, u64),
     Exhausted(u64),
@@ -186,7 +188,7 @@ fn none_dearer(frontier: &[u64], s: u64, cost: ConsumerCost) -> bool
 }
 
 // One of those that are kept prunes it; it comes beside them all; or it removes some.
-#[derive(Drop)]
+#[derive(Clone, Copy)]
 enum Effect {
     Pruned,
     Beside,
@@ -259,7 +261,7 @@ fn prune(frontier: &mut [u64], builder: Builder, candidate: ScratchCandidate) ->
 }
 
 // A slot for a new candidate, and the registers without it.
-#[derive(Drop)]
+#[derive(Clone, Copy)]
 struct Slot {
     slot: u64,
     free: u64,
@@ -363,7 +365,7 @@ pub fn following(frontier: &[u64], s: u64) -> Link
 }
 
 // The words of a pending plan.
-#[derive(Drop)]
+#[derive(Clone, Copy)]
 struct Words {
     kind: u64,
     first: u64,

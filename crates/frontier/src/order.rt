@@ -13,7 +13,7 @@ const PREVIOUS: u64 = 8;
 const NEXT: u64 = 9;
 
 // The two ends of the order.
-#[derive(Drop)]
+#[derive(Clone, Copy)]
 pub struct Ends {
     pub head: u64,
     pub tail: u64,

@@ -1,7 +1,9 @@
 // The library for C and Rust: a call, a file read and a file written, live reports, and a shift's files in one go, with answers in words. None has a `requires`.
+#![tactic(auto)]
+
 ghost use Rattle.std.specs.Prelude.{◌≡◌, length};
 ghost use Rattle.prepare.specs.File.{TablesLent};
-ghost use Rattle.prepare.specs.Writing.{lentTables, LentAt};
+ghost use Rattle.prepare.specs.Writing.{lent_tables, LentAt};
 ghost use Rattle.render.specs.Call.{lengths};
 ghost use Rattle.call_words.specs.Words.{options, bounds};
 ghost use Rattle.gannozhi.specs.Words.{Answered, read_number, read_words, Read, counts, write_number, write_size, Wrote};
@@ -155,7 +157,7 @@ pub extern "C" fn gannozhi_write(
     out: &mut [u8],
     size: &mut usize,
 ) -> u32
-    ensures { Wrote (lentTables (counts file_counts.now) nodes.now edges.now choices.now texts.now bytes.now) (LentAt (counts file_counts.now) nodes.now edges.now choices.now texts.now bytes.now) out.old out.new size.new result }
+    ensures { Wrote (lent_tables (counts file_counts.now) nodes.now edges.now choices.now texts.now bytes.now) (LentAt (counts file_counts.now) nodes.now edges.now choices.now texts.now bytes.now) out.old out.new size.new result }
 {
     let n = counts_of(*file_counts);
     let o = write(n, nodes, edges, choices, texts, bytes, out);

@@ -1,6 +1,6 @@
 // A shift's files in one go, for C and Rust. The record is the desks' words and the counts' words together.
 ghost use Rattle.call_words.specs.Words.{options, bounds};
-ghost use Rattle.render.specs.Call.{lengths as lent-lengths};
+ghost use Rattle.render.specs.Call.{lengths as lent_lengths};
 ghost use Rattle.gannozhi.specs.Shifts.{FiledShift};
 
 use batch_call::file_all;
@@ -42,7 +42,7 @@ pub extern "C" fn gannozhi_file_all(
     spans: &mut [[u64; 4]],
     answers: &mut [[u64; 26]],
 ) -> u32
-    ensures { FiledShift desk desks.old desks.new counts.old counts.new files.now lengths.now (options width newline_cost policy rule) (bounds sizes.now work_limit visit_limit) (lent-lengths nodes.old edges.old choices.old texts.old bytes.old tasks.old results.old pending.old index.old entries.old kept.old frontier.old plans.old visit.old depth.old output.old spans.old) output.old output.new spans.old spans.new answers.old answers.new result }
+    ensures { FiledShift desk desks.old desks.new counts.old counts.new files.now lengths.now (options width newline_cost policy rule) (bounds sizes.now work_limit visit_limit) (lent_lengths nodes.old edges.old choices.old texts.old bytes.old tasks.old results.old pending.old index.old entries.old kept.old frontier.old plans.old visit.old depth.old output.old spans.old) output.old output.new spans.old spans.new answers.old answers.new result }
 {
     let o = options_of(width, newline_cost, policy, rule);
     let b = bounds_of(*sizes, work_limit, visit_limit);

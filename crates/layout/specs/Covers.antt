@@ -1,14 +1,15 @@
--- One candidate makes another superfluous: the test as facts; it is reflexive and transitive.
+-- One candidate makes another superfluous: the test as facts. It is reflexive and transitive (proofs/Covers).
 use Rattle.std.specs.Prelude.{◌≡◌, Bool, ◌&&◌, ◌||◌, ◌≤◌, ◌<◌, ltb}
 use Rattle.std.proofs.Math.Path.{refl}
-use Rattle.std.proofs.Common.{◌∙◌, arith}
+use Rattle.std.proofs.Common.{arith}
 use Rattle.std.proofs.Math.Logic.{⊎_elim}
 use Rattle.std.proofs.Math.Bool.{true, false}
 use Rattle.std.proofs.Math.Dec.{eqb}
 use borrow.Author.Tests.{ltb-true, eqb-true, eqb-false, lt-ltb}
 use Rattle.cost.specs.Cost.{cheap, cheaper}
 use Rattle.cost.specs.Logic.{no_both, or_cases, or_left, and_left, and_right, and_both, not_true, not_false, false_if}
-use Rattle.cost.specs.Order.{Cheap, cheap_refl, cheap_trans, cheap_is, is_cheap, not_cheap}
+use Rattle.cost.specs.Order.{Cheap, cheap_is, is_cheap}
+use Rattle.cost.proofs.Order.{not_cheap}
 use Rattle.layout.specs.Frontier.{Cand, covers}
 
 module _ {P : Type 0} where
@@ -48,20 +49,3 @@ module _ {P : Type 0} where
           (not_false _ (false_if _ (λ c. let d = cheap_is y.cost x.cost c in
           let o : x.cost.overflow ≡ y.cost.overflow = omega (arith, d.overflow_le, h.cost_le.overflow_le) in
           eqb-false _ _ e (h.tie o (omega (arith, d.burden_le (omega arith), h.cost_le.burden_le o))))))
-
-  pub covers_refl : (x : Cand P) → covers x x ≡ true
-  covers_refl x = is_covers x x (record { column_le = omega arith; cost_le = cheap_refl x.cost; tie = λ a b. refl })
-
-  pub covers_trans : (x y z : Cand P) → covers x y ≡ true → covers y z ≡ true → covers x z ≡ true
-  covers_trans x y z s t =
-      let h = covers_is x y s in
-      let k = covers_is y z t in
-      is_covers x z (record {
-        column_le = omega (arith, h.column_le, k.column_le);
-        cost_le = cheap_trans h.cost_le k.cost_le;
-        tie = λ a b.
-            let p : x.cost.overflow ≡ y.cost.overflow = omega (arith, h.cost_le.overflow_le, k.cost_le.overflow_le) in
-            let q : y.cost.overflow ≡ z.cost.overflow = omega arith in
-            let m : x.cost.burden ≡ y.cost.burden = omega (arith, h.cost_le.burden_le p, k.cost_le.burden_le q) in
-            h.tie p m ∙ k.tie q (omega arith);
-      })

@@ -1,7 +1,7 @@
--- The list of layouts has the layouts that the document allows, and no other; there is always one.
+-- The list of layouts has the layouts that the document allows, and no other (`membership`, in proofs/Members); there is always one.
 use Rattle.std.proofs.Math.Path.{refl}
 use Rattle.std.proofs.Math.Logic.{⊎_elim}
-use Rattle.std.specs.Prelude.{◌↔◌, ℕ, ◌+◌}
+use Rattle.std.specs.Prelude.{ℕ, ◌+◌}
 use mathlib.Core.List.{map}
 use mathlib.Core.List.Memᴰ.{append_cases as in_append}
 use mathlib.Core.List.Memᴰ.{append_left as in_left}
@@ -50,9 +50,6 @@ module _ (R : Rules) where
   allowed_layouts (is_second {c} {i} {a} {b} m) = in_right (layouts R a c i) (allowed_layouts m)
   allowed_layouts (is_annotate {k = k} m) = in_map (mark k) (allowed_layouts m)
   allowed_layouts (is_penalty {n = n} m) = in_map (fee n) (allowed_layouts m)
-
-  pub membership : (d : Doc) (c i : ℕ) (p : Plan) → In p (layouts R d c i) ↔ Allows R d c i p
-  membership d c i p = (layouts_allowed d c i, allowed_layouts)
 
   -- the layout of all first choices
   abbrev pub some_plan : Doc → ℕ → ℕ → Plan

@@ -3,7 +3,7 @@ use Rattle.std.specs.Prelude.{◌≡◌, refl, Bool, true, false, cond, List, []
 use Rattle.std.proofs.Common.{sym, ap, ap₂, ◌∙◌, append_assoc, arith, length-append}
 use Rattle.std.proofs.Math.Path.{subst}
 use Rattle.std.proofs.Math.Option.{Option, some, none-ne-some, some-injective}
-use Rattle.std.proofs.lemmas.List.{map_append}
+use Rattle.std.proofs.lemmas.List.{map-append}
 use Rattle.cost.specs.Cost.{cheaper}
 use Rattle.layout.specs.Document.{Doc, cat}
 use Rattle.layout.specs.Rules.{Rules}
@@ -143,7 +143,7 @@ module _ (R : Rules) where
 
     within : (p : Plan) (l : List Plan) → Alikes (each outer (map (join p) l)) (map (join p) (each (inner p) l))
     within p [] = no_more
-    within p (q ∷ l) = subst (λ (r : List Plan). Alikes (each outer (map (join p) (q ∷ l))) r) (sym (map_append (join p) (inner p q) (each (inner p) l)))
+    within p (q ∷ l) = subst (λ (r : List Plan). Alikes (each outer (map (join p) (q ∷ l))) r) (sym (map-append (join p) (inner p q) (each (inner p) l)))
         (alikes_append (three p q (layouts R e (last q (last p c)) i)) (within p l))
 
     across : (l : List Plan) → Alikes (each outer (each (λ p. map (join p) (layouts R b (last p c) i)) l)) (each (λ p. map (join p) (each (inner p) (layouts R b (last p c) i))) l)

@@ -1,21 +1,20 @@
 -- Document 02, change 2: a report's one document, "a Seq of the rows with a HardLine between neighbours". Its answer is its rows' answers, one below the other: page, spans and cost.
 use Rattle.std.specs.Prelude.{◌≡◌, List, [], ◌∷◌, ◌++◌, map, ℕ, suc, ◌+◌, ◌≤◌, length}
 use Rattle.std.proofs.Math.Path.{refl}
-use Rattle.std.proofs.Common.{sym, ap, ap₂, ◌∙◌, append_nil, append_assoc, length-append, arith}
+use Rattle.std.proofs.Common.{sym, ap, ap₂, ◌∙◌, append-nil, append_assoc, length-append, arith}
 use Rattle.std.proofs.Math.Option.{Option, none, some}
-use Rattle.std.proofs.lemmas.List.{map_append, length-map}
+use Rattle.std.proofs.lemmas.List.{map-append, length-map}
 use Rattle.cost.specs.Cost.{Cost, zero_cost, add}
 use Rattle.cost.specs.Rising.{at_zero}
 use Rattle.layout.specs.Document.{Doc, empty, newline, cat}
 use Rattle.layout.specs.Rules.{Rules}
 use Rattle.layout.specs.Lawful.{Lawful}
 use Rattle.layout.specs.Layout.{Plan, blank, put, line, join, mark, fee, page}
-use Rattle.layout.specs.Choice.{layouts, price, chosen}
+use Rattle.layout.specs.Choice.{price, chosen}
 use Rattle.layout.specs.Running.{cost_from}
 use Rattle.layout.specs.Telescope.{price_is}
 use Rattle.layout.specs.Spans.{Span, spans_from, spans}
 use Rattle.layout.specs.Table.{Table, HardLine, Seq, seq_doc, shape, Reads}
-use Rattle.layout.specs.Rows.{rows_chosen}
 
 -- ---- the document, and the layout
 
@@ -59,17 +58,6 @@ pub data Each (R : Rules) : List Doc → List Plan → Type 0 where
   no_row : Each R [] []
   one_more : {d : Doc} {p : Plan} {ds : List Doc} {ps : List Plan} → chosen R d ≡ some p → Each R ds ps → Each R (d ∷ ds) (p ∷ ps)
 
-module _ (R : Rules) (L : Lawful R) where
-  below_chosen : (d : Doc) (p : Plan) {ds : List Doc} {ps : List Plan} → chosen R d ≡ some p → Each R ds ps → chosen R (below d ds) ≡ some (under p ps)
-  below_chosen d p e no_row = e
-  below_chosen d p e (one_more {d = f} {p = q} g h) = below_chosen (cat (cat d newline) f) (join (join p (line 0)) q) (rows_chosen R L d f p q e g) h
-
-  -- the first of the cheapest layouts of the one document is the rows' first of the cheapest, one below the other
-  pub report_chosen : {ds : List Doc} {ps : List Plan} → Each R ds ps → chosen R (report_doc ds) ≡ some (stacked ps)
-  unfolding layouts
-  report_chosen no_row = refl
-  report_chosen (one_more {d = d} {p = p} e h) = below_chosen d p e h
-
 -- ---- its page
 
 -- rows below a row: byte 10 before each
@@ -83,7 +71,7 @@ whole_page [] = []
 whole_page (b ∷ bs) = b ++ lines_below bs
 
 under_page : (p : Plan) (ps : List Plan) → page (under p ps) ≡ page p ++ lines_below (map page ps)
-under_page p [] = sym (append_nil (page p))
+under_page p [] = sym (append-nil (page p))
 under_page p (q ∷ qs) = under_page (join (join p (line 0)) q) qs ∙ append_assoc (page p ++ (10 ∷ [])) (page q) (lines_below (map page qs)) ∙ append_assoc (page p) (10 ∷ []) (page q ++ lines_below (map page qs))
 
 pub stacked_page : (ps : List Plan) → page (stacked ps) ≡ whole_page (map page ps)
@@ -110,7 +98,7 @@ shift (join p q) at up n a k =
     let e : at + a + length (page p) ≡ at + length (page p) + a = omega arith in
     let f : n + k + length (spans_from p (at + a) (up_by k up) (n + k)) ≡ n + length (spans_from p at up n) + k = omega (arith, len) in
     ap₂ (λ (x y : List Span). x ++ y) one (ap₂ (λ (u v : ℕ). spans_from q u (up_by k up) v) e f ∙ shift q (at + length (page p)) up (n + length (spans_from p at up n)) a k)
-    ∙ sym (map_append (moved a k) (spans_from p at up n) (spans_from q (at + length (page p)) up (n + length (spans_from p at up n))))
+    ∙ sym (map-append (moved a k) (spans_from p at up n) (spans_from q (at + length (page p)) up (n + length (spans_from p at up n))))
 shift (mark m p) at up n a k =
     let e : at + a + length (page p) ≡ at + length (page p) + a = omega arith in
     let f : suc (n + k) ≡ suc n + k = omega arith in
@@ -150,12 +138,12 @@ rest_of ps at n = spans_below at n (map page ps) (map spans ps)
 
 under_spans : (p : Plan) (ps : List Plan) → spans (under p ps) ≡ spans p ++ rest_of ps (length (page p) + 1) (length (spans p))
 unfolding rest_of
-under_spans p [] = sym (append_nil (spans p))
+under_spans p [] = sym (append-nil (spans p))
 under_spans p (q ∷ qs) =
     let a : 0 + length (page p ++ (10 ∷ [])) ≡ length (page p) + 1 = omega (arith, length-append (page p) (10 ∷ [])) in
-    let b : 0 + length (spans p ++ []) ≡ length (spans p) = ap (λ (l : List Span). 0 + length l) (append_nil (spans p)) ∙ (omega arith) in
+    let b : 0 + length (spans p ++ []) ≡ length (spans p) = ap (λ (l : List Span). 0 + length l) (append-nil (spans p)) ∙ (omega arith) in
     let two : spans (join (join p (line 0)) q) ≡ spans p ++ map (moved (length (page p) + 1) (length (spans p))) (spans q)
-    = ap₂ (λ (x y : List Span). x ++ y) (append_nil (spans p)) (ap₂ (λ (u v : ℕ). spans_from q u none v) a b ∙ moved_spans q (length (page p) + 1) (length (spans p))) in
+    = ap₂ (λ (x y : List Span). x ++ y) (append-nil (spans p)) (ap₂ (λ (u v : ℕ). spans_from q u none v) a b ∙ moved_spans q (length (page p) + 1) (length (spans p))) in
     let c : length (page (join (join p (line 0)) q)) + 1 ≡ length (page p) + 1 + length (page q) + 1 = omega (arith, length-append (page p ++ (10 ∷ [])) (page q), length-append (page p) (10 ∷ [])) in
     let d : length (spans (join (join p (line 0)) q)) ≡ length (spans p) + length (spans q)
     = ap length two ∙ length-append (spans p) (map (moved (length (page p) + 1) (length (spans p))) (spans q)) ∙ ap (λ (k : ℕ). length (spans p) + k) (length-map (spans q) (moved (length (page p) + 1) (length (spans p)))) in

@@ -4,7 +4,7 @@ use Rattle.std.proofs.Math.Path.{refl, sym, ap, ap₂, fun_ext}
 use Rattle.std.proofs.Common.{◌∙◌, ⊎_elim}
 use Rattle.std.proofs.Math.Logic.{inl, inr}
 use Rattle.std.proofs.Math.Bool.{Bool, true, false, not, or-false, or-true, or_assoc, and-false}
-use mathlib.Core.List.{List, [], ◌∷◌, ◌++◌, append_nil, append_assoc}
+use mathlib.Core.List.{List, [], ◌∷◌, ◌++◌, append-nil, append_assoc}
 use mathlib.Core.List.Memᴰ.{append_cases as in_append}
 use mathlib.Core.List.Memᴰ.{append_left as in_left}
 use mathlib.Core.List.Memᴰ.{append_right as in_right}
@@ -72,13 +72,13 @@ module _ {A : Type 0} where
       go true e n ih = top e ih (in_cons n)
       go false e n ih = low ih n
 
-  pub in_keep : (f : A → Bool) (l : List A) {a : A} → In a l → f a ≡ true → In a (keep f l)
-  in_keep f l {a} (here {x} {xs} p) e = go (f x) (rw (← p) e)
+  pub in_keep : (f : A → Bool) {a : A} (l : List A) → In a l → f a ≡ true → In a (keep f l)
+  in_keep f {a} l (here {x} {xs} p) e = go (f x) (rw (← p) e)
     where
       go : (b : Bool) → b ≡ true → In a (cons_if b x (keep f xs))
       go true q = here p
       go false q = no_both false q refl
-  in_keep f l {a} (there {x} {xs} m) e = go (f x) (in_keep f xs m e)
+  in_keep f {a} l (there {x} {xs} m) e = go (f x) (in_keep f xs m e)
     where
       go : (b : Bool) → In a (keep f xs) → In a (cons_if b x (keep f xs))
       go true n = there n
@@ -241,7 +241,7 @@ module _ {A : Type 0} (le : A → A → Bool) where
 
     pub load_is : (l xs : List A) → Level l → load le l xs ≡ keep (λ k. not (any (λ y. lt y k) xs)) l ++ stay (λ y. any (λ k. le k y) l) xs
     unfolding load present
-    load_is l [] h = sym (append_nil (keep (λ k. true) l) ∙ keep_all l)
+    load_is l [] h = sym (append-nil (keep (λ k. true) l) ∙ keep_all l)
     load_is l (x ∷ xs) h = load_is (present le l x) xs (present_level l x h) ∙ go (any (λ k. le k x) l) refl
       where
         P : A → Bool

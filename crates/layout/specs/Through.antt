@@ -3,7 +3,7 @@ use Rattle.std.specs.Prelude.{◌≡◌, Bool, ◌&&◌, ◌||◌}
 use Rattle.std.proofs.Math.Path.{refl, sym, ap}
 use Rattle.std.proofs.Common.{ap₂, subst, ◌∙◌}
 use Rattle.std.proofs.Math.Bool.{true, false, not, cond, or-false}
-use mathlib.Core.List.{List, [], ◌∷◌, ◌++◌, map, map_append, append_nil, append_assoc}
+use mathlib.Core.List.{List, [], ◌∷◌, ◌++◌, map, map-append, append-nil, append_assoc}
 use mathlib.Core.List.Memᴰ.{append_left as in_left}
 use mathlib.Core.List.Memᴰ.{append_right as in_right}
 use mathlib.Core.List.Memᴰ.{head as here}
@@ -96,7 +96,7 @@ module _ {A B : Type 0} (la : A → A → Bool) (lb : B → B → Bool) (lb_refl
 
   load_through : (l xs : List A) → build lb (each G (load la l xs)) ≡ build lb (each G (l ++ xs))
   unfolding load present
-  load_through l [] = ap (λ (r : List A). build lb (each G r)) (sym (append_nil l))
+  load_through l [] = ap (λ (r : List A). build lb (each G r)) (sym (append-nil l))
   load_through l (x ∷ xs) = load_through (present la l x) xs ∙ go (any (λ k. la k x) l) refl
     where
       K : List A
@@ -140,7 +140,7 @@ module _ {A B : Type 0} (le : A → A → Bool) (lb : B → B → Bool) (f : A �
     where
       go : (t : Bool) → cond t (map f l) (map f (keep (λ k. not (le x k)) l) ++ (f x ∷ [])) ≡ map f (cond t l (keep (λ k. not (le x k)) l ++ (x ∷ [])))
       go true = refl
-      go false = sym (map_append f (keep (λ k. not (le x k)) l) (x ∷ []))
+      go false = sym (map-append f (keep (λ k. not (le x k)) l) (x ∷ []))
 
   load_map : (l xs : List A) → load lb (map f l) (map f xs) ≡ map f (load le l xs)
   unfolding load

@@ -1,5 +1,5 @@
 -- ExactSolver, function by function: each step emits what the Rust tests and counts, in its order. No bound is known here.
-use Rattle.std.specs.Prelude.{Bool, true, false, not, List, [], ◌∷◌, ◌++◌, map, ℕ, zero, suc, ◌+◌, ◌-◌, ltb, length, take, drop, get_or}
+use Rattle.std.specs.Prelude.{Bool, true, false, List, [], ◌∷◌, ◌++◌, map, ℕ, zero, suc, ◌+◌, ◌-◌, ltb, length, take, drop, get_or}
 use Rattle.std.proofs.Math.Option.{Option, none, some}
 use Rattle.cost.specs.Cost.{Cost, zero_cost, add}
 use Rattle.cost.specs.Charge.{text_cost, newline_cost, penalty_cost}

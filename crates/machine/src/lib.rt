@@ -1,1 +1,2 @@
-// The machine: the solver's tasks and the materializer's walk as programs that emit what they test and count (definitions and theorems, in specs/).
+// The machine: the solver's tasks and the materializer's walk as programs that emit what they test and count (definitions and theorems, in specs/ and proofs/).
+#![tactic(auto)]

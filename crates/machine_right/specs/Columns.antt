@@ -4,7 +4,7 @@ use native.Mathlib.Omega.{arith}
 use Rattle.std.specs.Prelude.{Bool, ◌&&◌, ◌≡◌, ltb, take, drop, get_or}
 use Rattle.std.proofs.Math.Bool.{true, false}
 use Rattle.std.proofs.Math.Option.{Option, none, some}
-use mathlib.Core.List.{List, [], ◌∷◌, ◌++◌, map, append_assoc, append_nil}
+use mathlib.Core.List.{List, [], ◌∷◌, ◌++◌, map, append_assoc, append-nil}
 use Rattle.std.proofs.Math.Path.{refl, ap, ap₂, subst}
 use Rattle.std.proofs.Common.{sym, ◌∙◌}
 use borrow.Author.Tests.{ltb-true, ltb-false}
@@ -34,7 +34,7 @@ use borrow.Author.Tests.{eqb-true}
 use Rattle.std.proofs.Math.Dec.{eqb}
 use Rattle.layout.specs.Layout.{last}
 use Rattle.machine.specs.Solver.{step, step_on}
-use Rattle.machine_right.specs.Relations.{All2, nil, cons, all2_append, all2_imp, all2_length, Some, some_append, some_after, list_some, Ext, ext_refl, ext_trans, Reads, as_empty, as_text, as_newline, as_concat, as_penalty, laid, Waits, Holds, waits_grow, holds_grow, den_grow, Rising, rising_lower, Headed, headed, Slice, slice_grow, get_d_append, some_snoc}
+use Rattle.machine_right.specs.Relations.{All2, nil, cons, all2_append, all2_imp, all2_length, Some, some_append, some_after, list_some, Ext, ext_refl, ext_trans, Reads, as_empty, as_text, as_newline, as_concat, as_penalty, laid, Waits, Holds, waits_grow, holds_grow, den_grow, Rising, rising_lower, Headed, headed, Slice, slice_grow, get_or_append, some_snoc}
 use Rattle.machine_right.specs.Fronts.{Front}
 use Rattle.machine_right.specs.Ready.{Ready}
 use Rattle.machine_right.specs.Sound.{Each}
@@ -64,7 +64,7 @@ heap_grow : {T : Table} {ps ps' : List Plan} {c : ℕ} {qs l : List Scratch} →
 heap_grow {T = T} e h = record { above = h.above; front = h.front; split = h.split; waits = all2_imp (λ x y. waits_grow T e) h.waits; fit = h.fit }
 
 heap_none : {T : Table} {ps : List Plan} {c : ℕ} (qs : List Scratch) → Heap T ps c qs qs
-heap_none qs = record { above = []; front = []; split = sym (append_nil qs); waits = nil; fit = tt }
+heap_none qs = record { above = []; front = []; split = sym (append-nil qs); waits = nil; fit = tt }
 
 ranged_grow : {T : Table} {k k' : List Candidate} {ps ps' : List Plan} {c s n : ℕ} → Ext k k' → Ext ps ps' → Ranged T k ps c s n → Ranged T k' ps' c s n
 ranged_grow ek ep h = record { front = h.front; den = den_grow ek ep h.den; fit = h.fit }
@@ -87,8 +87,8 @@ pub data Lay (T : Table) (k : List Candidate) (ps : List Plan) : List Task → L
       → KeyFit q → Ranged T k ps q.column (acc.start + o) (suc g) → acc.len ≡ o + suc g → d ≡ (get_or k (acc.start + o) no_candidate).column → Heap T ps q.column qs Qs → length qs ≡ start
       → Lay T k ps ts (q.column ∷ cs) qs → Lay T k ps (CompleteSequenceRight q x acc o start ∷ ts) (d ∷ cs) Qs
 
-getD_grow : {k k' : List Candidate} → Ext k k' → (i : ℕ) → i < length k → get_or k' i no_candidate ≡ get_or k i no_candidate
-getD_grow {k} e i h = ap (λ (z : List Candidate). get_or z i no_candidate) e.is ∙ get_d_append k e.more i no_candidate h
+get_or_grow : {k k' : List Candidate} → Ext k k' → (i : ℕ) → i < length k → get_or k' i no_candidate ≡ get_or k i no_candidate
+get_or_grow {k} e i h = ap (λ (z : List Candidate). get_or z i no_candidate) e.is ∙ get_or_append k e.more i no_candidate h
 
 module _ {T : Table} where
   lay_grow : {k k' : List Candidate} {ps ps' : List Plan} {ts : List Task} {cs : List ℕ} {qs : List Scratch} → Ext k k' → Ext ps ps' → Lay T k ps ts cs qs → Lay T k' ps' ts cs qs
@@ -101,7 +101,7 @@ module _ {T : Table} where
   lay_grow ek ep (l_penalty e l) = l_penalty e (lay_grow ek ep l)
   lay_grow ek ep (l_continue f e l) = l_continue f e (lay_grow ek ep l)
   lay_grow ek ep (l_right {o = o} {acc = acc} f r n e h q l) =
-      l_right f (ranged_grow ek ep r) n (e ∙ ap (λ (z : Candidate). z.column) (sym (getD_grow ek (acc.start + o) (omega (arith, r.den.inside))))) (heap_grow ep h) q (lay_grow ek ep l)
+      l_right f (ranged_grow ek ep r) n (e ∙ ap (λ (z : Candidate). z.column) (sym (get_or_grow ek (acc.start + o) (omega (arith, r.den.inside))))) (heap_grow ep h) q (lay_grow ek ep l)
 
 -- ---- leaves, and what is made of candidates
 
@@ -142,7 +142,7 @@ module _ (T : Table) (ps : List Plan) where
       → (cs : List Candidate) (S : State) {G : Front} {Q : State → Type 0} → All2 (Holds T ps) cs G → Each (Fit c) G → (B : Built T ps c S.builder S.generated) → Some (B.front ++ G)
       → ((b : List Scratch) (g : ℕ) (B' : Built T ps c b g) → Some B'.front → Q (with_builder b g S)) → Fined Q (present_wrapped wrapper additional cs S)
   unfolding present_wrapped
-  wrapped_fits w a f c like fits [] S nil e B s h = ends (h _ _ B (subst (λ (z : Front). Some z) (append_nil B.front) s))
+  wrapped_fits w a f c like fits [] S nil e B s h = ends (h _ _ B (subst (λ (z : Front). Some z) (append-nil B.front) s))
   wrapped_fits w a f c like fits (x ∷ cs) S (cons {b = y} {ys = G} v vs) e B s h =
       fined (add_fits x.cost a λ o u. fined (present_fits T ps c _ S (like x y v) (fits x y v e.0 o u) B λ b g B' s'.
       wrapped_fits w a f c like fits cs (with_builder b g S) vs e.1 B' (some_append B'.front G s') h))
@@ -151,7 +151,7 @@ module _ (T : Table) (ps : List Plan) where
       → Holds T ps l L → Fit c L → All2 (Holds T ps) cs F → Each (Fit L.column) F → (H : Heap T ps c qs S.pending)
       → ((l' : List Scratch) (H' : Heap T ps c qs l') → (Some (H.front ++ F) → Some H'.front) → Q (with_pending l' S)) → Fined Q (push_joined l cs S)
   unfolding push_joined
-  joined_fits c l [] S hl fl nil ff H h = ends (h S.pending H (λ s. subst (λ (z : Front). Some z) (append_nil H.front) s))
+  joined_fits c l [] S hl fl nil ff H h = ends (h S.pending H (λ s. subst (λ (z : Front). Some z) (append-nil H.front) s))
   joined_fits c l (x ∷ cs) S {L} {qs = qs} hl fl (cons {b = y} {ys = F} hx hs) ff H h =
       let z = scratch (add l.cost x.cost) x.column (Made (PlanConcat l.plan.plan x.plan.plan)) in
       let same : add l.cost x.cost ≡ add L.cost y.cost = ap₂ add hl.same_cost hx.same_cost in
@@ -431,7 +431,7 @@ module _ (R : Rules) (M : Mild R) (P : Prepared) (K : Ready P) where
       → (H' : Heap T (laid T p) c qs l) → (Some (H.front ++ Ls) → Some H'.front) → Q (with_stores k p (with_builder b g (with_pending l S)))) → Fined Q (push_gaps R P i s n S)
   unfolding push_gaps heap_grow
   gaps_fit c i s zero S si ins nil f H h =
-      ends (h S.builder S.generated S.retained S.plans S.pending ext_refl ext_refl H (λ z. subst (λ (v : Front). Some v) (append_nil H.front) z))
+      ends (h S.builder S.generated S.retained S.plans S.pending ext_refl ext_refl H (λ z. subst (λ (v : Front). Some v) (append-nil H.front) z))
   gaps_fit c i s (suc n) S {qs = qs} si ins (cons {b = L} {ys = Ls} hx hs) f H h =
       let ps = laid T S.plans in
       fined (text_fits R P _ 1 λ w.

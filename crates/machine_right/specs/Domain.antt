@@ -11,7 +11,8 @@ use Rattle.layout.specs.Frontier.{Cand, least_from}
 use Rattle.layout.specs.Table.{Table}
 use Rattle.machine.specs.Events.{Bounds, Counts, no_counts, Prog, Out, done, run}
 use Rattle.machine.specs.Programs.{value, done_is}
-use Rattle.machine.specs.Enough.{InDomain, necessary}
+use Rattle.machine.specs.Enough.{InDomain}
+use Rattle.machine.proofs.Enough.{necessary}
 use Rattle.machine.specs.Model.{Prepared, Candidate, Scratch, plan_at, Task, Eval, memo_key, State, blank_state, with_tasks}
 use Rattle.machine.specs.Solve.{rest, Solved, least_key, best_of, solve_tasks, take_best, solve}
 use Rattle.machine.specs.Materializer.{recount}
@@ -27,7 +28,7 @@ use Rattle.machine_right.specs.Fitting.{Cols, Fit, Fined, ends, says, fined, fin
 use Rattle.machine_right.specs.Columns.{Mild, KeyFit, RangedAt, Lay, l_done, l_eval, Fits, step_fits}
 
 -- what holds at the end, with what is known of the value
-fined_with : {A : Type 0} {m : Prog A} {Q W : A → Type 0} → Fined Q m → W (value m) → Fined (λ a. Q a × W a) m
+fined_with : {A : Type 0} {Q W : A → Type 0} {m : Prog A} → Fined Q m → W (value m) → Fined (λ a. Q a × W a) m
 fined_with (ends h) w = ends (h, w)
 fined_with (says h) w = says (λ f. fined_with (h f) w)
 

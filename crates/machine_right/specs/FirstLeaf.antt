@@ -14,8 +14,10 @@ use Rattle.layout.specs.Table.{Node, Empty, Break, HardLine, Text, Seq, Fill, Gr
 use Rattle.layout.specs.Frontier.{present as presented}
 use Rattle.machine.specs.Events.{Bounds, Counts, Needs, no_counts, Kind, stack, memo, kept, frontier, plans, visit, Event, Prog, emit, ◌>>=◌, say}
 use Rattle.machine.specs.Programs.{value, value_bind}
-use Rattle.machine.specs.Enough.{asks, peak, peak_bind, InDomain, domain_first, domain_then, necessary}
-use Rattle.machine.specs.Just.{ended, answer_need}
+use Rattle.machine.specs.Enough.{asks, peak, peak_bind, InDomain, domain_first, domain_then}
+use Rattle.machine.proofs.Enough.{necessary}
+use Rattle.machine.specs.Just.{ended}
+use Rattle.machine.proofs.Just.{answer_need}
 use Rattle.machine.specs.Model.{Prepared, ExactChoice, PlanNode, Made, scratch, memo_key}
 use Rattle.machine.specs.Model.{Task, Eval, CompleteChoiceSet, State, blank_state, with_tasks, with_memo}
 use Rattle.machine.specs.Solver.{push_exact_task, push_exact_result, present, additional_plans, finish_builder, singleton, memo_insert, complete_node}

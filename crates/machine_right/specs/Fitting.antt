@@ -2,7 +2,7 @@
 use Rattle.std.specs.Prelude.{ℕ, ◌+◌, ◌<◌, ◌^◌, Bool, true, false, cond, ◌≡◌, length}
 use Rattle.std.proofs.Common.{arith, add-one, sym, subst}
 use Rattle.std.proofs.Math.Bool.{not}
-use mathlib.Core.List.{List, [], ◌∷◌, ◌++◌, append_nil}
+use mathlib.Core.List.{List, [], ◌∷◌, ◌++◌, append-nil}
 use Rattle.cost.specs.Cost.{Cost, add}
 use Rattle.cost.specs.Charge.{text_cost}
 use Rattle.memo.specs.declared.CandidateRange.{CandidateRange}
@@ -65,16 +65,16 @@ pub data Fined {A : Type 0} (Q : A → Type 0) : Prog A → Type 0 where
   ends : {a : A} → Q a → Fined Q (ret a)
   says : {e : Event} {p : Prog A} → (Fine e → Fined Q p) → Fined Q (emit e p)
 
-pub fined : {A B : Type 0} {m : Prog A} {f : A → Prog B} {Q : B → Type 0} → Fined (λ a. Fined Q (f a)) m → Fined Q (m >>= f)
+pub fined : {A B : Type 0} {f : A → Prog B} {Q : B → Type 0} {m : Prog A} → Fined (λ a. Fined Q (f a)) m → Fined Q (m >>= f)
 fined (ends h) = h
 fined (says h) = says (λ f. fined (h f))
 
-pub fined_value : {A : Type 0} {m : Prog A} {Q : A → Type 0} → Fined Q m → InDomain m → Q (value m)
+pub fined_value : {A : Type 0} {Q : A → Type 0} {m : Prog A} → Fined Q m → InDomain m → Q (value m)
 unfolding InDomain
 fined_value (ends h) d = h
 fined_value (says h) d = fined_value (h d.0) d.1
 
-pub fined_imp : {A : Type 0} {m : Prog A} {Q W : A → Type 0} → ((a : A) → Q a → W a) → Fined Q m → Fined W m
+pub fined_imp : {A : Type 0} {Q W : A → Type 0} {m : Prog A} → ((a : A) → Q a → W a) → Fined Q m → Fined W m
 fined_imp f (ends h) = ends (f _ h)
 fined_imp f (says h) = says (λ d. fined_imp f (h d))
 
@@ -136,7 +136,7 @@ module _ (T : Table) (ps : List Plan) (c : ℕ) where
   pub present_all_fits : (cs : List Scratch) (S : State) {G : Front} {Q : State → Type 0} → All2 (Waits T ps) cs G → Each (Fit c) G → (B : Built T ps c S.builder S.generated) → Some (B.front ++ G)
       → ((b : List Scratch) (g : ℕ) (B' : Built T ps c b g) → Some B'.front → Q (with_builder b g S)) → Fined Q (present_all cs S)
   unfolding present_all
-  present_all_fits [] S nil f B s h = ends (h _ _ B (subst (λ (z : Front). Some z) (append_nil B.front) s))
+  present_all_fits [] S nil f B s h = ends (h _ _ B (subst (λ (z : Front). Some z) (append-nil B.front) s))
   present_all_fits (x ∷ cs) S (cons {ys = G} w ws) f B s h =
       fined (present_fits x S w f.0 B λ b g B' s'. present_all_fits cs (with_builder b g S) ws f.1 B' (some_left B'.front G s') h)
     where

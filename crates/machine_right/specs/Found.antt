@@ -50,7 +50,7 @@ module _ {X Y : Type 0} {S : X → Y → Type 0} where
   pub least_like : {x : Cand X} {u : Cand Y} {xs : List (Cand X)} {us : List (Cand Y)} → Like S x u → All2 (Like S) xs us → Like S (least_from x xs) (least_from u us)
   least_like h nil = h
   least_like {x = x} {u = u} h (cons {a = y} {b = v} g t) =
-      least_like (rw (ap₂ cheaper g.same_cost h.same_cost) (cond_like (cheaper v.cost u.cost) g h)) t
+      least_like {x = cond (cheaper y.cost x.cost) y x} {u = cond (cheaper v.cost u.cost) v u} (rw (ap₂ cheaper g.same_cost h.same_cost) (cond_like (cheaper v.cost u.cost) g h)) t
 
 -- what is found is the first least of the frontier F
 pub record FoundIn (T : Table) (F : Front) (core : Solved) : Type 0 where

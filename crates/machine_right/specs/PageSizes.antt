@@ -14,7 +14,8 @@ use Rattle.machine.specs.Programs.{value, counts_after, value_bind, done_is}
 use Rattle.machine.specs.Enough.{peak, peak_bind}
 use Rattle.machine.specs.PageNeeds.{peak_then, output_need, spans_need}
 use Rattle.machine.specs.Quiet.{no_output, no_spans}
-use Rattle.machine.specs.Just.{answer_need, ended}
+use Rattle.machine.specs.Just.{ended}
+use Rattle.machine.proofs.Just.{answer_need}
 use Rattle.machine_right.specs.Materialized.{marks_are}
 
 module _ (R : Rules) (P : Prepared) (b : Bounds) (page : Rendered) (k : Counts) (h : answer R P b ≡ paged page k) where

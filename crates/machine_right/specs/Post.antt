@@ -20,14 +20,14 @@ pub data Post {A : Type 0} (Q : A → Type 0) : Prog A → Type 0 where
   holds_of : {a : A} → Q a → Post Q (ret a)
   says : {e : Event} {p : Prog A} → Can e → Post Q p → Post Q (emit e p)
 
-pub post_bind : {A B : Type 0} {m : Prog A} {f : A → Prog B} {Q : B → Type 0} → Post (λ a. Post Q (f a)) m → Post Q (m >>= f)
+pub post_bind : {A B : Type 0} {f : A → Prog B} {Q : B → Type 0} {m : Prog A} → Post (λ a. Post Q (f a)) m → Post Q (m >>= f)
 post_bind (holds_of h) = h
 post_bind (says o h) = says o (post_bind h)
 
-pub post_value : {A : Type 0} {m : Prog A} {Q : A → Type 0} → Post Q m → Q (value m)
+pub post_value : {A : Type 0} {Q : A → Type 0} {m : Prog A} → Post Q m → Q (value m)
 post_value (holds_of h) = h
 post_value (says o h) = post_value h
 
-pub post_imp : {A : Type 0} {m : Prog A} {Q W : A → Type 0} → ((a : A) → Q a → W a) → Post Q m → Post W m
+pub post_imp : {A : Type 0} {Q W : A → Type 0} {m : Prog A} → ((a : A) → Q a → W a) → Post Q m → Post W m
 post_imp f (holds_of h) = holds_of (f _ h)
 post_imp f (says o h) = says o (post_imp f h)

@@ -2,7 +2,7 @@
 use Rattle.std.specs.Prelude.{ℕ, zero, suc, ◌+◌, ◌≤◌, ◌<◌, Bool, ◌&&◌, ◌||◌, cond, ◌≡◌, refl, ltb, eqb, get_or}
 use Rattle.std.proofs.Common.{arith, le_refl, sym, ap, ◌∙◌, length-append}
 use Rattle.std.proofs.Math.Bool.{true, false, not}
-use mathlib.Core.List.{List, [], ◌∷◌, ◌++◌, map, append_assoc, append_nil}
+use mathlib.Core.List.{List, [], ◌∷◌, ◌++◌, map, append_assoc, append-nil}
 use Rattle.std.proofs.Math.Option.{some, none-ne-some, some-injective}
 use Rattle.std.proofs.Math.Path.{ap₂, subst}
 use Rattle.std.proofs.Math.ListN.{length, get_elem?}
@@ -170,7 +170,7 @@ pub record Ext {A : Type 0} (k l : List A) : Type 0 where
   pub is : l ≡ k ++ more
 
 pub ext_refl : {A : Type 0} {k : List A} → Ext k k
-ext_refl {k = k} = record { more = []; is = sym (append_nil k) }
+ext_refl {k = k} = record { more = []; is = sym (append-nil k) }
 
 pub ext_trans : {A : Type 0} {k l m : List A} → Ext k l → Ext l m → Ext k m
 ext_trans {k = k} a b = record { more = a.more ++ b.more; is = b.is ∙ (ap (λ x. x ++ b.more) a.is ∙ append_assoc k a.more b.more) }
@@ -187,10 +187,10 @@ pub look_seam : {A : Type 0} (p : List A) (r : A) (q : List A) → get_elem? (p 
 look_seam [] r q = refl
 look_seam (x ∷ p) r q = look_seam p r q
 
-pub look_getD : {A : Type 0} (p : List A) (i : ℕ) (d : A) {r : A} → get_elem? p i ≡ some r → get_or p i d ≡ r
-look_getD [] i d {r} h = absurd (none-ne-some r h)
-look_getD (x ∷ p) zero d {r} h = some-injective x r h
-look_getD (x ∷ p) (suc i) d h = look_getD p i d h
+pub look_get_or : {A : Type 0} (p : List A) (i : ℕ) (d : A) {r : A} → get_elem? p i ≡ some r → get_or p i d ≡ r
+look_get_or [] i d {r} h = absurd (none-ne-some r h)
+look_get_or (x ∷ p) zero d {r} h = some-injective x r h
+look_get_or (x ∷ p) (suc i) d h = look_get_or p i d h
 
 pub look_grow : {A : Type 0} {p q : List A} → Ext p q → (i : ℕ) {r : A} → get_elem? p i ≡ some r → get_elem? q i ≡ some r
 look_grow {p = p} e i h = rw e.is (look_append p e.more i h)
@@ -221,9 +221,9 @@ module _ {T : Table} where
   reads_made as_empty = refl
   reads_made as_text = refl
   reads_made as_newline = refl
-  reads_made {ps} (as_concat h g) = ap₂ join (look_getD ps _ blank h) (look_getD ps _ blank g)
-  reads_made {ps} (as_annotate {n = n} h) = ap (mark n) (look_getD ps _ blank h)
-  reads_made {ps} (as_penalty {n = n} h) = ap (fee n) (look_getD ps _ blank h)
+  reads_made {ps} (as_concat h g) = ap₂ join (look_get_or ps _ blank h) (look_get_or ps _ blank g)
+  reads_made {ps} (as_annotate {n = n} h) = ap (mark n) (look_get_or ps _ blank h)
+  reads_made {ps} (as_penalty {n = n} h) = ap (fee n) (look_get_or ps _ blank h)
 
 -- the layouts of all records
 unfoldable pub laid : Table → List PlanNode → List Plan
@@ -248,7 +248,7 @@ module _ (T : Table) where
 
   pub plan_at_is : (rs : List PlanNode) (i : ℕ) {t : Plan} → get_elem? (laid T rs) i ≡ some t → plan_at T rs i ≡ t
   unfolding laid plan_at
-  plan_at_is rs i h = look_getD (layouts_after T [] rs) i blank h
+  plan_at_is rs i h = look_get_or (layouts_after T [] rs) i blank h
 
   -- ---- candidates over the layouts so far
 
@@ -303,23 +303,23 @@ pub record Den (T : Table) (k : List Candidate) (ps : List Plan) (s n : ℕ) (F 
   pub filled : Some F
   pub rising : Rising 0 (part k s n)
 
-pub get_d_append : {A : Type 0} (k l : List A) (s : ℕ) (d : A) → s < length k → get_or (k ++ l) s d ≡ get_or k s d
-get_d_append [] l s d h = absurd (omega arith)
-get_d_append (x ∷ k) l zero d h = refl
-get_d_append (x ∷ k) l (suc s) d h = get_d_append k l s d (omega arith)
+pub get_or_append : {A : Type 0} (k l : List A) (s : ℕ) (d : A) → s < length k → get_or (k ++ l) s d ≡ get_or k s d
+get_or_append [] l s d h = absurd (omega arith)
+get_or_append (x ∷ k) l zero d h = refl
+get_or_append (x ∷ k) l (suc s) d h = get_or_append k l s d (omega arith)
 
 part_append : (k l : List Candidate) (s n : ℕ) → s + n ≤ length k → part (k ++ l) s n ≡ part k s n
 part_append k l s zero h = refl
-part_append k l s (suc n) h = ap₂ (λ (x : Candidate) (y : List Candidate). x ∷ y) (get_d_append k l s no_candidate (omega arith)) (part_append k l (s + 1) n (omega arith))
+part_append k l s (suc n) h = ap₂ (λ (x : Candidate) (y : List Candidate). x ∷ y) (get_or_append k l s no_candidate (omega arith)) (part_append k l (s + 1) n (omega arith))
 
-getD_seam : {A : Type 0} (k : List A) (x : A) (l : List A) (d : A) → get_or (k ++ (x ∷ l)) (length k) d ≡ x
-getD_seam [] x l d = refl
-getD_seam (y ∷ k) x l d = getD_seam k x l d
+get_or_seam : {A : Type 0} (k : List A) (x : A) (l : List A) (d : A) → get_or (k ++ (x ∷ l)) (length k) d ≡ x
+get_or_seam [] x l d = refl
+get_or_seam (y ∷ k) x l d = get_or_seam k x l d
 
 part_seam : (k xs : List Candidate) (s : ℕ) → s ≡ length k → part (k ++ xs) s (length xs) ≡ xs
 part_seam k [] s e = refl
 part_seam k (x ∷ xs) s e =
-    ap₂ (λ (x : Candidate) (y : List Candidate). x ∷ y) (ap (λ (i : ℕ). get_or (k ++ (x ∷ xs)) i no_candidate) e ∙ getD_seam k x xs no_candidate)
+    ap₂ (λ (x : Candidate) (y : List Candidate). x ∷ y) (ap (λ (i : ℕ). get_or (k ++ (x ∷ xs)) i no_candidate) e ∙ get_or_seam k x xs no_candidate)
     (ap (λ (z : List Candidate). part z (s + 1) (length xs)) (sym (append_assoc k (x ∷ []) xs)) ∙ part_seam (k ++ (x ∷ [])) xs (s + 1) (omega (arith, length-append k (x ∷ []))))
 
 module _ {T : Table} where

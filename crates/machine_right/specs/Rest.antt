@@ -1,7 +1,7 @@
 -- The run of the tasks: where there is a task, it is its step and then the rest; events are fewer after each step; it ends with one result, which stands for the goal.
 use Prim.Native.Nat.{ℕ, zero, suc, ◌+◌, ◌-◌, ◌≤◌, ◌<◌}
 use native.Mathlib.Omega.{arith}
-use mathlib.Core.List.{List, [], ◌∷◌, ◌++◌, append_nil}
+use mathlib.Core.List.{List, [], ◌∷◌, ◌++◌, append-nil}
 use Rattle.std.specs.Prelude.{◌≡◌}
 use Rattle.std.proofs.Math.Path.{refl, sym, ap, ap₂, subst}
 use Rattle.std.proofs.Common.{◌∙◌}
@@ -271,4 +271,4 @@ module _ (R : Rules) (P : Prepared) (D : ℕ → Doc) (goal : Front) (K : Ready 
 
   pub rest_ends : (S : State) → Inv R P D goal S → Post (Kept []) (rest R P S)
   unfolding rest
-  rest_ends S i = (all_same ev (evaluated R P (suc P.depth)) P.depth ev_same S.tasks [] S (all_low S.tasks) (record { inv = i; tasks_are = sym (append_nil S.tasks) })).post
+  rest_ends S i = (all_same ev (evaluated R P (suc P.depth)) P.depth ev_same S.tasks [] S (all_low S.tasks) (record { inv = i; tasks_are = sym (append-nil S.tasks) })).post

@@ -14,7 +14,7 @@ use Rattle.layout.specs.Choice.{price}
 use Rattle.layout.specs.Cheapest.{FirstCheapest}
 use Rattle.layout.specs.Reading.{document, document_reads}
 use Rattle.layout.specs.Telescope.{price_is}
-use Rattle.layout.specs.Answers.{front_answer}
+use Rattle.layout.proofs.Answers.{front_answer}
 use Rattle.machine.specs.Numbers.{MachineNumbered, listed, indent, cost}
 use Rattle.machine.specs.Events.{Bounds, Counts, no_counts, Kind, stack, memo, kept, frontier, plans, visit, depth, output, spans, passes, counted, needed, why, bare, Why, domain, work_spent, too_small, visits_spent, impossible, number, Prog, Out, done, stop, run}
 use Rattle.machine.specs.Events.{Event, Need, Within, Hit, Miss, Generated, Visit, Pruned, Peak, Entries, PlanNodes, Never}

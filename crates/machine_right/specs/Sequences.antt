@@ -4,7 +4,7 @@ use native.Mathlib.Omega.{arith}
 use Rattle.std.proofs.Common.{add-one, ap₂, ◌∙◌, subst}
 use Rattle.std.specs.Prelude.{Bool, ◌≡◌, ltb, take, drop}
 use Rattle.std.proofs.Math.Bool.{true, false}
-use mathlib.Core.List.{List, [], ◌∷◌, ◌++◌, map, append_assoc, append_nil}
+use mathlib.Core.List.{List, [], ◌∷◌, ◌++◌, map, append_assoc, append-nil}
 use mathlib.Core.List.Memᴰ.{head as here}
 use mathlib.Core.List.Memᴰ.{not-nil as not_in_nil}
 use mathlib.Core.List.Memᴰ.{tail as there}
@@ -95,7 +95,7 @@ module _ (R : Rules) (P : Prepared) (D : ℕ → Doc) (goal : Front) (K : Ready 
       → Pile T (laid T p) qs (G ++ joins (gap R T D i) Ls) l → Q (with_stores k p (with_builder b g (with_pending l S)))) → Post Q (push_gaps R P i s n S)
   unfolding push_gaps joins gap build load
   gaps_post i s zero S {G = G} {qs = qs} ins nil pl h =
-      holds_of (h S.builder S.generated S.retained S.plans S.pending ext_refl ext_refl (subst (λ (z : Front). Pile T (laid T S.plans) qs z S.pending) (sym (append_nil G)) pl))
+      holds_of (h S.builder S.generated S.retained S.plans S.pending ext_refl ext_refl (subst (λ (z : Front). Pile T (laid T S.plans) qs z S.pending) (sym (append-nil G)) pl))
   gaps_post i s (suc n) S {G = G} {qs = qs} ins (cons {b = L} {ys = Ls} hx hs) pl h =
       let ps = laid T S.plans in
       post_bind (text_post _ 1 (post_bind (present_post T ps _ (begin_builder S) (gap_waits ps _ L hx) nil (omega arith) λ b g a u.
@@ -115,7 +115,7 @@ module _ (R : Rules) (P : Prepared) (D : ℕ → Doc) (goal : Front) (K : Ready 
       → RangeDen R T D k (laid T p) r' (build covers (joins (gap R T D i) F)) → Q (got r' (with_stores k p (with_builder b g S)))) → Post Q (fill_boundary R P r i S)
   unfolding fill_boundary
   fill_post r i S {F} den h =
-      post_bind (gaps_post i r.start r.len S {G = []} {qs = S.pending} den.inside den.holds (record { above = []; split = sym (append_nil S.pending); waits = nil })
+      post_bind (gaps_post i r.start r.len S {G = []} {qs = S.pending} den.inside den.holds (record { above = []; split = sym (append-nil S.pending); waits = nil })
       λ b g k p l ek ep pl. build_post T (length S.pending) _ {qs = S.pending} pl refl (some_joins (gap R T D i) F (some_gap i) den.filled) λ b' g' k' p' ek' ep' den'.
       h b' g' k' p' _ (ext_trans ek ek') (ext_trans ep ep') den')
 
@@ -149,10 +149,10 @@ module _ (R : Rules) (P : Prepared) (D : ℕ → Doc) (goal : Front) (K : Ready 
         → us ≡ Eval k ∷ CompleteSequenceRight q x acc (o + 1) start ∷ ts → AfterRight q x acc o start ts us
 
   -- a child of a sequence is of lower rank
-  in_getD : (l : List ℕ) (x : ℕ) → x < length l → In (get_or l x 0) l
-  in_getD [] x h = absurd (omega arith)
-  in_getD (k ∷ l) zero h = here refl
-  in_getD (k ∷ l) (suc x) h = there (in_getD l x (omega arith))
+  in_get_or : (l : List ℕ) (x : ℕ) → x < length l → In (get_or l x 0) l
+  in_get_or [] x h = absurd (omega arith)
+  in_get_or (k ∷ l) zero h = here refl
+  in_get_or (k ∷ l) (suc x) h = there (in_get_or l x (omega arith))
 
   kids_refer : (v : Node) (k : ℕ) → In k (children v) → In k (refers T v)
   kids_refer Empty k i = absurd (not_in_nil i)
@@ -169,7 +169,7 @@ module _ (R : Rules) (P : Prepared) (D : ℕ → Doc) (goal : Front) (K : Ready 
   kids_refer (Fill ks) k i = i
 
   child_lower : (q : MemoKey) (x : ℕ) → x < length (kids R T D q) → K.ranked.rank (get_or (kids R T D q) x 0) < K.ranked.rank q.node
-  child_lower q x h = K.ranked.falls q.node (get_or (kids R T D q) x 0) (kids_refer (T.node q.node) (get_or (kids R T D q) x 0) (in_getD (kids R T D q) x h))
+  child_lower q x h = K.ranked.falls q.node (get_or (kids R T D q) x 0) (kids_refer (T.node q.node) (get_or (kids R T D q) x 0) (in_get_or (kids R T D q) x h))
 
   -- ---- the steps
 
@@ -209,7 +209,7 @@ module _ (R : Rules) (P : Prepared) (D : ℕ → Doc) (goal : Front) (K : Ready 
       right_begins (AfterContinue q x S.tasks) q x r' 0 hd.others (length S.pending) _ {G = []} {Ls = hd.tail} {L = hd.head} {qs = S.pending}
       (subst (λ (s : ℕ). Den T k (laid T p) s (suc hd.others) (hd.head ∷ hd.tail)) (sym z) hd.den) (omega (arith, hd.count)) lt
       (subst (λ (s : ℕ). Holds T (laid T p) (get_or k s no_candidate) hd.head) (sym z) hd.first)
-      (record { above = []; split = sym (append_nil S.pending); waits = nil }) refl
+      (record { above = []; split = sym (append-nil S.pending); waits = nil }) refl
       (f ∙ ap (λ (v : Front). seqs R T D (is_fill (T.node q.node)) (drop (x + 1) (kids R T D q)) q.indent (build covers (joins (λ c. front R (D (get_or (kids R T D q) x 0)) c q.indent) v))) hd.whole)
       (cont_grow R T D ek ep c) (res_grow R P D goal ek ep rs) (memo_grow R T D ek ep S.memo m)
       (λ k' low. started k' r' (length S.pending) lt low refl))
@@ -241,7 +241,7 @@ module _ (R : Rules) (P : Prepared) (D : ℕ → Doc) (goal : Front) (K : Ready 
       post_bind (build_post T start S pl lp sm λ b' g k p ek ep den. post_bind (task_post (ContinueSequence q (x + 1)) _ (result_post _ _ (record {
         inv = record {
           types = _;
-          conts = c_continue (e ∙ ap (λ (v : Front). seqs R T D (is_fill (T.node q.node)) (drop (x + 1) (kids R T D q)) q.indent (build covers v)) (append_nil G)) (cont_grow R T D ek ep c);
+          conts = c_continue (e ∙ ap (λ (v : Front). seqs R T D (is_fill (T.node q.node)) (drop (x + 1) (kids R T D q)) q.indent (build covers v)) (append-nil G)) (cont_grow R T D ek ep c);
           res = cons den (res_grow R P D goal ek ep rs);
           memos = memo_grow R T D ek ep S.memo m;
         };

@@ -2,7 +2,7 @@
 use Prim.Native.Nat.{ℕ, zero, suc, ◌+◌, ◌≤◌, ◌<◌}
 use Rattle.std.proofs.Common.{arith, ◌∙◌, subst}
 use Rattle.std.proofs.Math.Option.{Option, none, some}
-use mathlib.Core.List.{List, [], ◌∷◌, ◌++◌, map, append_assoc, append_nil}
+use mathlib.Core.List.{List, [], ◌∷◌, ◌++◌, map, append_assoc, append-nil}
 use mathlib.Core.List.Memᴰ.{head as here}
 use mathlib.Core.List.Memᴰ.{tail as there}
 use mathlib.Core.List.{Memᴰ as In}
@@ -22,7 +22,7 @@ use Rattle.layout.specs.Table.{Reads as ReadsAs}
 use Rattle.layout.specs.References.{refers, flat_of, RightList, two, more}
 use Rattle.layout.specs.Frontier.{Cand, covers, build, front}
 use Rattle.layout.specs.Frontier.{present as presented}
-use Rattle.layout.specs.ChoiceLists.{list_front}
+use Rattle.layout.proofs.ChoiceLists.{list_front}
 use Rattle.machine.specs.Events.{Prog}
 use Rattle.machine.specs.Model.{Prepared, ExactChoice, children, Candidate, Scratch, range, memo_key}
 use Rattle.machine.specs.Model.{Task, Eval, CompleteAlias, CompleteUnion, CompleteChoiceSet, CompleteAnnotate, CompletePenalty, ContinueSequence, CompleteSequenceRight, State, with_tasks, with_builder, Got}
@@ -126,7 +126,7 @@ module _ (R : Rules) (P : Prepared) (D : ℕ → Doc) (goal : Front) where
   stacking_append (n ∷ ns) c i Gs Es = stacking_append ns c i (front R (D n) c i ∷ Gs) Es
 
   stacking_flatten : (ns : List ℕ) (c i : ℕ) (Gs : List Front) → flatten (stacking ns c i Gs) ≡ flatten Gs ++ each (λ n. front R (D n) c i) ns
-  stacking_flatten [] c i Gs = sym (append_nil (flatten Gs))
+  stacking_flatten [] c i Gs = sym (append-nil (flatten Gs))
   stacking_flatten (n ∷ ns) c i Gs = stacking_flatten ns c i (front R (D n) c i ∷ Gs) ∙ append_assoc (flatten Gs) (front R (D n) c i) (each (λ n. front R (D n) c i) ns)
 
   stacking_some : (ns : List ℕ) (c i : ℕ) (Gs : List Front) → Some Gs → Some (stacking ns c i Gs)

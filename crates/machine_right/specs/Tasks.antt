@@ -1,7 +1,7 @@
 -- The completing tasks keep the typed stack and never come to what cannot be, as Sound says of Eval; Sequences has those of sequences.
 use Rattle.std.specs.Prelude.{ℕ, ◌+◌, ◌-◌, ◌≡◌, take, drop}
 use Rattle.std.proofs.Common.{arith, sym, ◌∙◌, subst}
-use mathlib.Core.List.{List, [], ◌∷◌, ◌++◌, map, append_assoc, append_nil}
+use mathlib.Core.List.{List, [], ◌∷◌, ◌++◌, map, append_assoc, append-nil}
 use Rattle.std.proofs.Math.Path.{ap, ap₂}
 use Rattle.std.proofs.Math.ListN.{length, length-append}
 use Rattle.cost.specs.Cost.{Cost, zero_cost, add}
@@ -67,7 +67,7 @@ module _ (R : Rules) (P : Prepared) (T : Table) (ps : List Plan) where
       → Holds T ps l L → All2 (Holds T ps) cs F → Pile T ps qs G S.pending
       → ((l' : List Scratch) → Pile T ps qs (G ++ map (after L) F) l' → Q (with_pending l' S)) → Post Q (push_joined l cs S)
   unfolding push_joined
-  joined_post l [] S {G = G} {qs = qs} hl nil pl h = holds_of (h S.pending (subst (λ (z : Front). Pile T ps qs z S.pending) (sym (append_nil G)) pl))
+  joined_post l [] S {G = G} {qs = qs} hl nil pl h = holds_of (h S.pending (subst (λ (z : Front). Pile T ps qs z S.pending) (sym (append-nil G)) pl))
   joined_post l (c ∷ cs) S {L} {G = G} {qs = qs} hl (cons {b = y} {ys = F} hc hcs) pl h =
       let x = scratch (add l.cost c.cost) c.column (Made (PlanConcat l.plan.plan c.plan.plan)) in
       post_bind (add_post l.cost c.cost (post_bind (pending_post x S (joined_post l cs _ {G = G ++ (after L y ∷ [])} {qs = qs} hl hcs

@@ -1,10 +1,10 @@
 -- Each kind of item keeps what the visit stack will come to.
 use mathlib.Core.Path.{◌≡◌, refl, sym, ap, ap₂, subst, ◌∙◌}
 use mathlib.Core.Option.{Option, some}
-use mathlib.Core.List.{List, [], ◌∷◌, ◌++◌, map, append_nil, append_assoc}
+use mathlib.Core.List.{List, [], ◌∷◌, ◌++◌, map, append-nil, append_assoc}
 use Prim.Native.Nat.{ℕ, suc, ◌+◌, ◌-◌, ◌≤◌, ◌<◌, max}
 use native.Mathlib.Omega.{arith}
-use native.Mathlib.Nat.{add_zero}
+use native.Mathlib.Nat.{add-zero}
 use lib.ListN.{length, length-append, length-replicate, length-map, set, take, drop, replicate}
 use lib.Seq.{set-append_seam, get_or-append_seam}
 use Rattle.file_tables.specs.declared.AnnotationId.{AnnotationId}
@@ -94,30 +94,30 @@ module _ (c : Capacity) (o : Around) (bytes : List ℕ) (W : List Work) (w : Wal
   pub moves_blank : Moved c o bytes (Lay blank ∷ W) w W (step w t) Pass
   unfolding peak
   moves_blank = record {
-    leads = ap (ran c o w.visits) (plan_blank _ _ _ _ _) ∙ (visit_go c o w.visits _ h ∙ rw (add_zero w.at, add_zero w.spans));
+    leads = ap (ran c o w.visits) (plan_blank _ _ _ _ _) ∙ (visit_go c o w.visits _ h ∙ rw (add-zero w.at, add-zero w.spans));
     put = refl;
     at_is = omega arith;
     marked = omega arith;
-    spanned = λ l s e. rw (add_zero w.at, append_nil s);
+    spanned = λ l s e. rw (add-zero w.at, append-nil s);
     room = (refl, refl);
     counted = refl;
-    highest = ap high (plan_blank _ _ _ _ _) ∙ rw (add_zero w.at, add_zero w.spans) (omega (arith, u));
-    deepest = ap deep (plan_blank _ _ _ _ _) ∙ rw (add_zero w.at, add_zero w.spans) (omega arith);
+    highest = ap high (plan_blank _ _ _ _ _) ∙ rw (add-zero w.at, add-zero w.spans) (omega (arith, u));
+    deepest = ap deep (plan_blank _ _ _ _ _) ∙ rw (add-zero w.at, add-zero w.spans) (omega arith);
   }
 
   pub moves_put : (s l : ℕ) (x : Word) → s + l ≤ length bytes → x.bytes ≡ take l (drop s bytes) → length (take l (drop s bytes)) ≡ l → w.at + l ≤ c.output
       → Moved c o bytes (Lay (put x) ∷ W) w W (record { top = t; depth = w.depth; at = w.at + l; spans = w.spans; visits = w.visits + 1 }) (Put s l)
   unfolding peak
   moves_put s l x n q e m = record {
-    leads = ap (ran c o w.visits) (plan_put _ _ _ _ _ x) ∙ (visit_go c o w.visits _ h ∙ rw (q, e) (need_go c o output (w.visits + 1) (w.at + l) _ m ∙ rw (add_zero w.spans)));
+    leads = ap (ran c o w.visits) (plan_put _ _ _ _ _ x) ∙ (visit_go c o w.visits _ h ∙ rw (q, e) (need_go c o output (w.visits + 1) (w.at + l) _ m ∙ rw (add-zero w.spans)));
     put = rw q;
     at_is = rw e;
     marked = omega arith;
-    spanned = λ g r f. rw (q, e, append_nil r);
+    spanned = λ g r f. rw (q, e, append-nil r);
     room = (refl, refl, n);
     counted = refl;
-    highest = ap high (plan_put _ _ _ _ _ x) ∙ rw (q, e, add_zero w.spans) (omega (arith, u));
-    deepest = ap deep (plan_put _ _ _ _ _ x) ∙ rw (q, e, add_zero w.spans) (omega arith);
+    highest = ap high (plan_put _ _ _ _ _ x) ∙ rw (q, e, add-zero w.spans) (omega (arith, u));
+    deepest = ap deep (plan_put _ _ _ _ _ x) ∙ rw (q, e, add-zero w.spans) (omega arith);
   }
 
   pub moves_line : (i : ℕ) → w.at + (i + 1) ≤ c.output
@@ -126,15 +126,15 @@ module _ (c : Capacity) (o : Around) (bytes : List ℕ) (W : List Work) (w : Wal
   moves_line i m =
       let e : w.at + suc (length {A = ℕ} (replicate i 32)) ≡ w.at + i + 1 = omega (arith, length-replicate {A = ℕ} i 32) in
       record {
-        leads = ap (ran c o w.visits) (plan_line _ _ _ _ _ i) ∙ (visit_go c o w.visits _ h ∙ (each_go c o (w.visits + 1) w.at (i + 1) _ m ∙ rw (e, add_zero w.spans)));
+        leads = ap (ran c o w.visits) (plan_line _ _ _ _ _ i) ∙ (visit_go c o w.visits _ h ∙ (each_go c o (w.visits + 1) w.at (i + 1) _ m ∙ rw (e, add-zero w.spans)));
         put = refl;
         at_is = sym e;
         marked = omega arith;
-        spanned = λ g r f. rw (e, append_nil r);
+        spanned = λ g r f. rw (e, append-nil r);
         room = (refl, refl);
         counted = refl;
-        highest = ap high (plan_line _ _ _ _ _ i) ∙ rw (quiet visit (λ n. refl) w.at (i + 1) _, e, add_zero w.spans) (omega (arith, u));
-        deepest = ap deep (plan_line _ _ _ _ _ i) ∙ rw (quiet depth (λ n. refl) w.at (i + 1) _, e, add_zero w.spans) (omega arith);
+        highest = ap high (plan_line _ _ _ _ _ i) ∙ rw (quiet visit (λ n. refl) w.at (i + 1) _, e, add-zero w.spans) (omega (arith, u));
+        deepest = ap deep (plan_line _ _ _ _ _ i) ∙ rw (quiet depth (λ n. refl) w.at (i + 1) _, e, add-zero w.spans) (omega arith);
       }
 
   pub moves_join : (p q : Plan) → length W + 2 ≤ c.visit → Moved c o bytes (Lay (join p q) ∷ W) w (Lay p ∷ Lay q ∷ W) (step w (t + 2)) Pass

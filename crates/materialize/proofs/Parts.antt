@@ -1,10 +1,10 @@
 -- What the leaves write: parts of the output, rows of spans.
 use mathlib.Core.Path.{◌≡◌, refl, sym, ap, subst, ◌∙◌}
 use mathlib.Core.Bool.{Bool, true, false}
-use mathlib.Core.List.{List, [], ◌∷◌, ◌++◌, append_nil}
+use mathlib.Core.List.{List, [], ◌∷◌, ◌++◌, append-nil}
 use Prim.Native.Nat.{ℕ, suc, ◌+◌, ◌-◌, ◌≤◌, ◌<◌, ◌^◌}
 use native.Mathlib.Omega.{arith}
-use native.Mathlib.Nat.{add_zero}
+use native.Mathlib.Nat.{add-zero}
 use native.Mathlib.Numerals.{add-one}
 use borrow.Author.Tests.{eqb-true, eqb-false}
 use lib.Dec.{eqb}
@@ -23,7 +23,7 @@ pub part_wrote : (out ys bs post : List ℕ) (at : ℕ) → at + length bs ≤ l
     → ys ≡ bs ++ drop (length bs) (take (length out - at) (drop at out)) → take at out ++ (ys ++ post) ≡ wrote bs at out
 part_wrote out ys bs [] at h n e =
     let f : length (drop at out) ≤ length out - at = omega (arith, length-drop at out) in
-    rw (e, take_all (length out - at) (drop at out) f, drop-drop (length bs) at out, append_nil)
+    rw (e, take_all (length out - at) (drop at out) f, drop-drop (length bs) at out, append-nil)
 part_wrote out ys bs (x ∷ post) at h n e = absurd (omega arith)
 
 none_left : (out : List ℕ) (at : ℕ) → length (drop (length out - at) (drop at out)) ≡ 0
@@ -46,7 +46,7 @@ line_wrote out ys i at h e =
     (e ∙ ap (λ (k : ℕ). (10 ∷ replicate i 32) ++ drop k (take (length out - at) (drop at out))) n)
 
 pub wrote_none : (at : ℕ) (l : List ℕ) → l ≡ wrote [] at l
-wrote_none at l = rw (add_zero at) (sym (take-append-drop at l))
+wrote_none at l = rw (add-zero at) (sym (take-append-drop at l))
 
 pub under_top : (n : ℕ) (o : List ℕ) (d t : ℕ) → d ≡ suc t → Under n (pile o d) → get_or o t 0 < n
 under_top n o d t e h = (subst (λ (k : ℕ). Under n (pile o k)) e h).0

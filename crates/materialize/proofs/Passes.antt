@@ -1,6 +1,6 @@
 -- The first pass: what holds between its turns, and what it comes to.
 use mathlib.Core.Path.{◌≡◌, refl, sym, ap, subst, ◌∙◌}
-use mathlib.Core.List.{List, [], ◌∷◌, append_nil}
+use mathlib.Core.List.{List, [], ◌∷◌, append-nil}
 use Prim.Native.Nat.{ℕ, zero, suc, ◌+◌, ◌≤◌, ◌<◌, max}
 use native.Mathlib.Omega.{arith}
 use native.Mathlib.Numerals.{add-one}
@@ -9,7 +9,6 @@ use lib.Seq.{get_or-set_same}
 use mathlib.Core.Option.{none}
 use Rattle.file_tables.specs.Tables.{byte_length, byte_start}
 use Rattle.layout.specs.Layout.{Plan, page}
-use Rattle.layout.specs.Spans.{spans}
 use Rattle.machine.specs.Events.{no_counts, visit, depth, Need, ret, emit, ◌>>◌}
 use Rattle.machine.specs.Materializer.{marks, visit_plan, materialize}
 use Rattle.machine.specs.Enough.{peak}
@@ -101,7 +100,7 @@ along_begin c o P X bytes root e v h =
     rw (first_pile e root h)
     (record {
       leads = ap (ran c o 0) (whole p) ∙ (need_go c o visit 0 1 (visit_plan p 0 0 0 0) (omega arith) ∙ ap (ran c o 0) (sym (then_nothing (visit_plan p 0 0 0 0))));
-      sized = rw (append_nil (page p)) (omega arith);
+      sized = rw (append-nil (page p)) (omega arith);
       counted = omega arith;
     })
 

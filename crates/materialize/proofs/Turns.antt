@@ -16,7 +16,7 @@ use Rattle.layout.specs.Layout.{Plan, blank, put, line, join, mark, fee}
 use Rattle.plan.specs.declared.PlanId.{PlanId}
 use Rattle.plan.specs.declared.PlanNode.{PlanNode}
 use Rattle.plan.specs.declared.PlanNode.TheVariants.{Empty, Text, Newline, Concat, Annotate, Penalty}
-use Rattle.plan.specs.Records.{nodeAt}
+use Rattle.plan.specs.Records.{node_at}
 use Rattle.plan.specs.Arena.{arena}
 use Rattle.plan.specs.Layouts.{layout_of, layouts, Fine, Ranked}
 use Rattle.plan.specs.Uses.{layout_is, arena_node, arena_length}
@@ -59,12 +59,12 @@ pile_two s t x y h =
 -- ---- plans
 
 plan_is : (P X : List Row) (bytes : List ℕ) (i : ℕ) → Ranked (length X) (arena P (length P)) → i < length P
-    → plan P X bytes i ≡ layout_of (text_at X bytes) (layouts (text_at X bytes) (arena P (length P))) (nodeAt P i)
+    → plan P X bytes i ≡ layout_of (text_at X bytes) (layouts (text_at X bytes) (arena P (length P))) (node_at P i)
 plan_is P X bytes i r h =
     layout_is (text_at X bytes) (length X) (arena P (length P)) r i (rw (arena_length P (length P)) h)
     ∙ ap (layout_of (text_at X bytes) (layouts (text_at X bytes) (arena P (length P)))) (arena_node P (length P) i h)
 
-fine_is : (P X : List Row) (i : ℕ) → Ranked (length X) (arena P (length P)) → i < length P → Fine (length X) i (nodeAt P i)
+fine_is : (P X : List Row) (i : ℕ) → Ranked (length X) (arena P (length P)) → i < length P → Fine (length X) i (node_at P i)
 fine_is P X i r h = subst (λ (x : PlanNode). Fine (length X) i x) (arena_node P (length P) i h) (r.fine i (rw (arena_length P (length P)) h))
 
 -- ---- an item is taken
@@ -131,7 +131,7 @@ module _ {c : Capacity} {P X : List Row} {e : List ℕ} {w : Walk} {t i : ℕ} (
   pub below : i < length P
   below = omega (arith, (valid_top p).0)
 
-  pub fine_at : (x : PlanNode) → nodeAt P i ≡ x → Fine (length X) i x
+  pub fine_at : (x : PlanNode) → node_at P i ≡ x → Fine (length X) i x
   fine_at x q = subst (λ (y : PlanNode). Fine (length X) i y) q (fine_is P X i p.standing.ranked below)
 
 abbrev under : (ℕ → Plan) → List ℕ → ℕ → List Work
@@ -168,14 +168,14 @@ module _ (c : Capacity) (o : Around) (P X : List Row) (bytes e : List ℕ) (w : 
       }
 
   module _ (i : ℕ) (p : Popped c P X e w t (suc i)) where
-    lays : (x : PlanNode) → nodeAt P i ≡ x → works g (pile e w.top) ≡ Lay (laid x) ∷ under g e t
+    lays : (x : PlanNode) → node_at P i ≡ x → works g (pile e w.top) ≡ Lay (laid x) ∷ under g e t
     lays x q = works_top p g ∙ ap (λ (r : Plan). Lay r ∷ under g e t) (plan_is P X bytes i p.standing.ranked (below p) ∙ ap laid q)
 
-    seen : (x : PlanNode) → nodeAt P i ≡ x → (r : Out (Unit {0})) → ran c o w.visits (ahead (Lay (laid x) ∷ under g e t) w) ≡ r
+    seen : (x : PlanNode) → node_at P i ≡ x → (r : Out (Unit {0})) → ran c o w.visits (ahead (Lay (laid x) ∷ under g e t) w) ≡ r
         → ran c o w.visits (ahead (works g (pile e w.top)) w) ≡ r
     seen x q r h = rw (lays x q) h
 
-    went : (x : PlanNode) → nodeAt P i ≡ x → (S : List ℕ) (z : Walk) (a : Act)
+    went : (x : PlanNode) → node_at P i ≡ x → (S : List ℕ) (z : Walk) (a : Act)
         → Moved c o bytes (Lay (laid x) ∷ under g e t) w (works g S) z a → Sound c (length P) S z → Walked c o P X bytes (pile e w.top) w S z a
     went x q S z a m s = record { moved = rw (lays x q) m; sound = s }
 
@@ -194,12 +194,12 @@ module _ (c : Capacity) (o : Around) (P X : List Row) (bytes e : List ℕ) (w : 
       valid = (valid_top p).1;
     }
 
-    pub empty_turned : nodeAt P i ≡ Empty → After e (Went (step w t) Pass)
+    pub empty_turned : node_at P i ≡ Empty → After e (Went (step w t) Pass)
     empty_turned q =
         went Empty q (pile e t) (step w t) Pass (moves_blank c o bytes (under g e t) w p.left t (under_length g e t) p.top_is)
         (same_sound (step w t) (omega (arith, room)) (sound p).at_le refl refl refl)
 
-    module _ (ib : InBytes X bytes) (u : TextId) (q : nodeAt P i ≡ Text u) where
+    module _ (ib : InBytes X bytes) (u : TextId) (q : node_at P i ≡ Text u) where
       abbrev s : ℕ
       s = byte_start (text_row X u.0)
 
@@ -225,7 +225,7 @@ module _ (c : Capacity) (o : Around) (P X : List Row) (bytes e : List ℕ) (w : 
               seen (Text u) q _ (ap (ran c o w.visits) (plan_put _ _ _ _ _ _) ∙ (visit_go c o w.visits _ p.left
               ∙ rw (text_length) (need_stop c o output (w.visits + 1) (w.at + l) _ (leb-false _ _ h))))
 
-    pub newline_turned : (n : ℕ) → nodeAt P i ≡ Newline n → After e (newline_turn c (step w t) n)
+    pub newline_turned : (n : ℕ) → node_at P i ≡ Newline n → After e (newline_turn c (step w t) n)
     newline_turned n q = go (leb (w.at + n + 1) c.output) refl
       where
         go : (b : Bool) → leb (w.at + n + 1) c.output ≡ b
@@ -241,7 +241,7 @@ module _ (c : Capacity) (o : Around) (P X : List Row) (bytes e : List ℕ) (w : 
     two : (x y : ℕ) → t + 2 ≤ length e → pile (set (set e t y) (t + 1) x) (t + 2) ≡ x ∷ y ∷ pile e t
     two x y h = pile_two e t x y (omega arith)
 
-    pub concat_turned : (l r : PlanId) → nodeAt P i ≡ Concat l r → After (two_words c (step w t) (r.0 + 1) (l.0 + 1) e) (two_turn c (step w t) Pass)
+    pub concat_turned : (l r : PlanId) → node_at P i ≡ Concat l r → After (two_words c (step w t) (r.0 + 1) (l.0 + 1) e) (two_turn c (step w t) Pass)
     concat_turned l r q = go (leb (t + 2) c.visit) refl
       where
         go : (b : Bool) → leb (t + 2) c.visit ≡ b
@@ -266,7 +266,7 @@ module _ (c : Capacity) (o : Around) (P X : List Row) (bytes e : List ℕ) (w : 
             ∙ rw (under_length g e t)
             (need_go c o visit (w.visits + 1) (t + 1) _ room ∙ need_stop c o visit (w.visits + 1) (t + 2) _ (leb-false _ _ b))))
 
-    module _ (k : AnnotationId) (x : PlanId) (q : nodeAt P i ≡ Annotate k x) where
+    module _ (k : AnnotationId) (x : PlanId) (q : node_at P i ≡ Annotate k x) where
       full_spans : c.spans < w.spans + 1 → After e (Stopped Spans (w.spans + 1) (w.visits + 1))
       full_spans h =
           seen (Annotate k x) q _ (ap (ran c o w.visits) (plan_mark _ _ _ _ _ _ _) ∙ (visit_go c o w.visits _ p.left
@@ -322,7 +322,7 @@ module _ (c : Capacity) (o : Around) (P X : List Row) (bytes e : List ℕ) (w : 
           by_spans true b = by_depth (leb (w.depth + 1) c.depth) refl (leb-true _ _ b)
           by_spans false b = full_spans (leb-false _ _ b)
 
-    pub penalty_turned : (a : ℕ) (x : PlanId) → nodeAt P i ≡ Penalty a x → After (set e t (x.0 + 1)) (Went (step w (t + 1)) Pass)
+    pub penalty_turned : (a : ℕ) (x : PlanId) → node_at P i ≡ Penalty a x → After (set e t (x.0 + 1)) (Went (step w (t + 1)) Pass)
     penalty_turned a x q =
         let f = fine_at p (Penalty a x) q in
         let n : length (under g e t) + 1 ≤ c.visit = rw (under_length g e t) room in

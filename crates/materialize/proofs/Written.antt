@@ -1,7 +1,7 @@
 -- The second pass: what holds between its turns, and what it comes to.
 use mathlib.Core.Path.{◌≡◌, refl, sym, ap, ap₂, subst, ◌∙◌}
 use mathlib.Core.Bool.{Bool, true, false}
-use mathlib.Core.List.{List, [], ◌++◌, append_nil, append_assoc}
+use mathlib.Core.List.{List, [], ◌++◌, append-nil, append_assoc}
 use Prim.Native.Nat.{ℕ, ◌+◌, ◌≤◌, ◌<◌, ◌^◌}
 use native.Mathlib.Omega.{arith}
 use borrow.Author.Tests.{leb-true, leb-false}
@@ -150,7 +150,7 @@ writing_begin c P X bytes root e out o s h l =
       around = h.around;
       visits = h.visits;
       passes = sym am.leads ∙ h.passed;
-      page_is = append_nil (page p);
+      page_is = append-nil (page p);
       page_past = refl;
       spans_is = refl;
       spans_past = refl;
@@ -173,7 +173,7 @@ module _ {c : Capacity} {P X : List Row} {bytes : List ℕ} {root : ℕ} {w : Wa
       let p = plan P X bytes root in
       let n : length (span_rows p) ≡ w.spans = sym (ap length at_end.spans_is) ∙ length-take-le w.spans s m in
       record {
-        output_is = over_is w.at out out₀ (page p) l (sym (append_nil (take w.at out)) ∙ at_end.page_is) at_end.page_past;
+        output_is = over_is w.at out out₀ (page p) l (sym (append-nil (take w.at out)) ∙ at_end.page_is) at_end.page_past;
         spans_is = over_is w.spans s s₀ (span_rows p) m at_end.spans_is at_end.spans_past;
         fits = λ k j. subst (λ (rows : List Row). Fits (get_or rows k [])) at_end.spans_is (rw (get_or-take w.spans s k [] (omega (arith, n))) (at_end.fits k (omega (arith, n))));
       }

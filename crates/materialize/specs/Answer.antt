@@ -2,7 +2,7 @@
 use Rattle.std.specs.Prelude.{◌≡◌, List, ◌++◌, ℕ, ◌≤◌, ◌<◌, ◌^◌, length, drop}
 use Rattle.layout.specs.Layout.{Plan, page}
 use Rattle.layout.specs.Spans.{spans}
-use Rattle.machine.specs.Events.{Counts, no_needs, Why, too_small, visits_spent, Out, done, stop, run}
+use Rattle.machine.specs.Events.{Counts, no_needs, Why, too_small, visits_spent, Out, done, stop}
 use Rattle.machine.specs.Events.{visit as visit_size, depth as depth_size, output as output_size, spans as spans_size}
 use Rattle.machine.specs.Materializer.{materialize}
 use Rattle.machine.specs.Enough.{peak}

@@ -4,7 +4,7 @@ use Rattle.file_tables.specs.Tables.{byte_length, byte_start}
 use Rattle.layout.specs.Document.{Word}
 use Rattle.layout.specs.Layout.{Plan}
 use Rattle.plan.specs.Arena.{arena}
-use Rattle.plan.specs.Layouts.{layoutAt, Ranked}
+use Rattle.plan.specs.Layouts.{layout_at, Ranked}
 use Rattle.machine_input.specs.Reading.{word_of_row}
 use Rattle.materialize.specs.Rows.{Row}
 
@@ -17,7 +17,7 @@ text_at texts bytes t = word_of_row bytes (text_row texts t)
 
 -- the layout of plan i, among the first n plan records
 abbrev pub layout : List Row → ℕ → List Row → List ℕ → ℕ → Plan
-layout plans n texts bytes i = layoutAt (text_at texts bytes) (arena plans n) i
+layout plans n texts bytes i = layout_at (text_at texts bytes) (arena plans n) i
 
 -- each text lies among the bytes
 pub record InBytes (texts : List Row) (bytes : List ℕ) : Type 0 where

@@ -1,6 +1,8 @@
 // The page and the spans of the chosen plan, in two passes over one walk: `measure` tests every limit, `write` writes.
 // So a refusal alters neither output nor spans, and visits are counted once.
 // Cost and column are not counted again: that the solver's cost is the layout's is a theorem about the machine, so CostWitnessMismatch never arises.
+#![tactic(auto)]
+
 ghost use Rattle.std.specs.Prelude.{◌≡◌, true, false, List, ◌∷◌, ◌++◌, ℕ, ◌+◌, ◌-◌, ◌≤◌, ◌<◌, ◌^◌, max, leb, length, take, drop, set, replicate};
 ghost use Rattle.file_tables.specs.Tables.{byte_start, byte_length};
 ghost use Rattle.materialize.specs.Rows.{parent_word};
@@ -13,7 +15,7 @@ use file_tables::{AnnotationId, TextId};
 use plan::{PlanId, PlanNode, plan_node};
 
 // The sizes of 18 to 21, and the limit of 22.
-#[derive(Drop)]
+#[derive(Clone, Copy)]
 pub struct Capacity {
     pub visit: usize,
     pub depth: usize,
@@ -23,7 +25,7 @@ pub struct Capacity {
 }
 
 // Which of them is passed.
-#[derive(Drop)]
+#[derive(Clone, Copy)]
 pub enum Exhausted {
     Visit,
     Depth,
@@ -33,14 +35,14 @@ pub enum Exhausted {
 }
 
 // A page: its bytes, its spans, and the visits; then the most items on the visit stack, and the most open spans. A refusal: what is needed (0 for the visit limit), and the visits before it.
-#[derive(Drop)]
+#[derive(Clone, Copy)]
 pub enum Measured {
     Page(usize, usize, u64, usize, usize),
     Refused(Exhausted, usize, u64),
 }
 
 // Where a walk stands: items on the visit stack, open spans, bytes and spans so far, items taken.
-#[derive(Drop)]
+#[derive(Clone, Copy)]
 pub struct Walk {
     pub top: usize,
     pub depth: usize,
@@ -50,7 +52,7 @@ pub struct Walk {
 }
 
 // What an item puts: nothing; a text's start and length among the bytes; a newline and its spaces; a span's beginning; its end.
-#[derive(Drop)]
+#[derive(Clone, Copy)]
 pub enum Act {
     Pass,
     Put(usize, usize),
@@ -59,14 +61,14 @@ pub enum Act {
     Close,
 }
 
-#[derive(Drop)]
+#[derive(Clone, Copy)]
 pub enum Visited {
     Went(Walk, Act),
     Stopped(Exhausted, usize, u64),
 }
 
 // What an item makes of the list of spans: nothing; the span of a number opens, with its annotation, its position, and its parent's word (0, or one more than the parent's number); it closes at a position.
-#[derive(Drop)]
+#[derive(Clone, Copy)]
 pub enum Mark {
     Nothing,
     Open(usize, AnnotationId, u64, u64),
@@ -74,7 +76,7 @@ pub enum Mark {
 }
 
 // The plan that is laid out, and how many plan records, texts and bytes of the lent tables are in use.
-#[derive(Drop)]
+#[derive(Clone, Copy)]
 pub struct Chosen {
     pub root: PlanId,
     pub plans: usize,
@@ -83,7 +85,7 @@ pub struct Chosen {
 }
 
 // A turn of the second pass: where the walk stands then, and what is to be marked.
-#[derive(Drop)]
+#[derive(Clone, Copy)]
 pub struct Step {
     pub walk: Walk,
     pub mark: Mark,

@@ -1,6 +1,6 @@
 -- A sound index stays sound with one entry more, in a slot that was not live.
 use Rattle.std.proofs.Common.{◌≡◌, ℕ, zero, suc, ◌+◌, ◌<◌, ◌≤◌, List, [], ◌∷◌, ◌++◌, length, get_or, set, sym, refl, ap, ◌∙◌, subst, add-one, arith, length-set, get_or-set_other, get_or-set_same, below_more}
-use Rattle.memo.specs.Hash.{hashOf}
+use Rattle.memo.specs.Hash.{hash_of}
 use Rattle.memo.specs.Entries.{Entry, word, key_at, entry, listed}
 use Rattle.memo.specs.Index.{place, Live, Path, Sound, Gap}
 use Rattle.memo.proofs.Search.{own}
@@ -73,8 +73,8 @@ module _ (ss : List ℕ) (es : List (List ℕ)) (n : ℕ) (e : Entry) (s : ℕ) 
   kept_path : (h z : ℕ) → Path ss es n (length ss) h z → Path ss' es' (n + 1) (length ss) h z
   kept_path h z p = record { far = p.far; short = p.short; ends = p.ends; full = λ j l. kept (place h j (length ss)) (p.full j l) }
 
-  new_path : Path ss' es' (n + 1) (length ss) (hashOf e.key) s
-  new_path = record { far = g.t; short = g.turns; ends = g.ends; full = λ j l. kept (place (hashOf e.key) j (length ss)) (g.passed j l).live }
+  new_path : Path ss' es' (n + 1) (length ss) (hash_of e.key) s
+  new_path = record { far = g.t; short = g.turns; ends = g.ends; full = λ j l. kept (place (hash_of e.key) j (length ss)) (g.passed j l).live }
 
   wide : length ss' ≡ length ss
   unfolding ss'
@@ -89,8 +89,8 @@ module _ (ss : List ℕ) (es : List (List ℕ)) (n : ℕ) (e : Entry) (s : ℕ) 
         (λ k l. rw (old k l 5)
         (get_or-set_other ss s (word es k 5) n 0 (λ e. g.dead (subst (λ w. Live ss es n w) e (own ss es n T k l))) ∙ T.named k l))
         (rw last (get_or-set_same ss s n 0 g.slot));
-    path = below_more (λ k. Path ss' es' (n + 1) (length ss') (hashOf (key_at es' k)) (word es' k 5)) n
-        (λ k l. rw (wide, old_key k l, old k l 5) (kept_path (hashOf (key_at es k)) (word es k 5) (T.path k l)))
+    path = below_more (λ k. Path ss' es' (n + 1) (length ss') (hash_of (key_at es' k)) (word es' k 5)) n
+        (λ k l. rw (wide, old_key k l, old k l 5) (kept_path (hash_of (key_at es k)) (word es k 5) (T.path k l)))
         (rw (wide, last_key, last) new_path);
     single = λ k j hk hj. below_more (λ k. (j : ℕ) → j < n + 1 → key_at es' k ≡ key_at es' j → k ≡ j) n
         (λ k lk. below_more (λ j. key_at es' k ≡ key_at es' j → k ≡ j) n

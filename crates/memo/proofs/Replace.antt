@@ -1,7 +1,7 @@
 -- An entry stored: at the end, or in the place of the one of its key.
 use Rattle.std.proofs.Common.{◌≡◌, ℕ, zero, suc, ◌+◌, ◌<◌, ◌≤◌, Bool, true, false, List, [], ◌∷◌, ◌++◌, length, get_or, set, sym, refl, ap, ◌∙◌, subst, ⊎_elim, arith, length-set}
 use Rattle.memo.specs.declared.MemoLookup.TheVariants.{Nothing}
-use Rattle.memo.specs.Hash.{hashOf}
+use Rattle.memo.specs.Hash.{hash_of}
 use Rattle.memo.specs.Entries.{pick, Entry, same, lookup, stored, word, key_at, entry, listed}
 use Rattle.memo.specs.Index.{place, Live, Path, Sound, Gap, Hit, Round, Entered, Refused}
 use Rattle.memo.proofs.Pigeon.{equal?}
@@ -68,7 +68,7 @@ module _ (ss : List ℕ) (es es' : List (List ℕ)) (n : ℕ) (len : length es' 
     room = omega (arith, T.room);
     within = λ k l. rw (at k) (T.within k l);
     named = λ k l. rw (at k) (T.named k l);
-    path = λ k l. rw (keys k, at k) (path (hashOf (key_at es k)) (word es k 5) (T.path k l));
+    path = λ k l. rw (keys k, at k) (path (hash_of (key_at es k)) (word es k 5) (T.path k l));
     single = λ k j lk lj p. T.single k j lk lj (sym (keys k) ∙ p ∙ keys j);
     power = T.power;
   }
@@ -115,4 +115,4 @@ module _ (ss : List ℕ) (es : List (List ℕ)) (n size : ℕ) (e : Entry) where
         }
 
     pub never : {m : ℕ} → Round ss es n e.key → Entered ss es n size ss es e m
-    never w = absurd (never_round ss es n e.key (hashOf e.key) (omega arith) w.passed)
+    never w = absurd (never_round ss es n e.key (hash_of e.key) (omega arith) w.passed)

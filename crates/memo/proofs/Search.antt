@@ -1,9 +1,9 @@
 -- What a search shows of a sound index.
-use Rattle.std.proofs.Common.{◌≡◌, ℕ, ◌+◌, ◌-◌, ◌%◌, ◌<◌, Bool, true, false, List, length, get_or, sym, ap, ◌∙◌, subst, ⊎_elim, add_zero, add_assoc, mod-lt, arith, pow_pos}
+use Rattle.std.proofs.Common.{◌≡◌, ℕ, ◌+◌, ◌-◌, ◌%◌, ◌<◌, Bool, true, false, List, length, get_or, sym, ap, ◌∙◌, subst, ⊎_elim, add-zero, add_assoc, mod-lt, arith, pow_pos}
 use native.Mathlib.Nat.{mod-mod, mod-add-mod}
 use lib.Bits.{bit_and, and_mask}
 use Rattle.memo.specs.declared.MemoKey.{MemoKey}
-use Rattle.memo.specs.Hash.{hashOf}
+use Rattle.memo.specs.Hash.{hash_of}
 use Rattle.memo.specs.Entries.{word, key_at}
 use Rattle.memo.specs.Index.{Power, place, Live, Path, Sound, Named, Told, Passed}
 use Rattle.memo.proofs.Pigeon.{less?, pigeon, place_single}
@@ -24,7 +24,7 @@ masked h m p = subst (λ z. bit_and h (z - 1) ≡ h % z) (sym p.is) (and_mask h 
 
 pub start : (r h m : ℕ) → Power m → r ≡ h → bit_and r (m - 1) ≡ place h 0 m
 unfolding place
-start r h m p e = rw (e, masked h m p, add_zero (h % m), mod-mod h m)
+start r h m p e = rw (e, masked h m p, add-zero (h % m), mod-mod h m)
 
 pub start_low : (r m : ℕ) → Power m → bit_and r (m - 1) < m
 start_low r m p = rw (masked r m p) (mod-lt r (positive p))
@@ -45,27 +45,27 @@ module _ (ss : List ℕ) (es : List (List ℕ)) (n : ℕ) (T : Sound ss es n) wh
   own k l = record { number = rw (T.named k l) l; back = ap (λ z. word es z 5) (T.named k l) }
 
   module _ (key : MemoKey) where
-    way : (k : ℕ) → k < n → key_at es k ≡ key → Path ss es n (length ss) (hashOf key) (word es k 5)
-    way k l q = subst (λ z. Path ss es n (length ss) (hashOf z) (word es k 5)) q (T.path k l)
+    way : (k : ℕ) → k < n → key_at es k ≡ key → Path ss es n (length ss) (hash_of key) (word es k 5)
+    way k l q = subst (λ z. Path ss es n (length ss) (hash_of z) (word es k 5)) q (T.path k l)
 
-    met : (k : ℕ) → k < n → key_at es k ≡ key → (t : ℕ) → ((j : ℕ) → j < t → Passed ss es n key (place (hashOf key) j (length ss)))
-        → (p : Path ss es n (length ss) (hashOf key) (word es k 5)) → p.far < t → ⊥
+    met : (k : ℕ) → k < n → key_at es k ≡ key → (t : ℕ) → ((j : ℕ) → j < t → Passed ss es n key (place (hash_of key) j (length ss)))
+        → (p : Path ss es n (length ss) (hash_of key) (word es k 5)) → p.far < t → ⊥
     met k l q t f p h =
         (f p.far h).other
         (subst (λ z. key_at es z ≡ key) (sym (ap (λ z. get_or ss z 0) p.ends ∙ T.named k l)) q)
 
-    pub none_free : (t : ℕ) → ((j : ℕ) → j < t → Passed ss es n key (place (hashOf key) j (length ss)))
-        → (Live ss es n (place (hashOf key) t (length ss)) → ⊥) → (k : ℕ) → k < n → key_at es k ≡ key → ⊥
+    pub none_free : (t : ℕ) → ((j : ℕ) → j < t → Passed ss es n key (place (hash_of key) j (length ss)))
+        → (Live ss es n (place (hash_of key) t (length ss)) → ⊥) → (k : ℕ) → k < n → key_at es k ≡ key → ⊥
     none_free t f dead k l q =
         let p = way k l q in
         ⊎_elim (λ h. met k l q t f p h)
         (λ h. ⊎_elim (λ g. dead (p.full t g))
         (λ g. let e : p.far ≡ t = omega arith in
-        dead (subst (λ z. Live ss es n z) (sym p.ends ∙ ap (λ z. place (hashOf key) z (length ss)) e) (own k l)))
+        dead (subst (λ z. Live ss es n z) (sym p.ends ∙ ap (λ z. place (hash_of key) z (length ss)) e) (own k l)))
         (less? t p.far))
         (less? p.far t)
 
-    pub none_round : ((j : ℕ) → j < length ss → Passed ss es n key (place (hashOf key) j (length ss)))
+    pub none_round : ((j : ℕ) → j < length ss → Passed ss es n key (place (hash_of key) j (length ss)))
         → (k : ℕ) → k < n → key_at es k ≡ key → ⊥
     none_round f k l q = let p = way k l q in met k l q (length ss) f p p.short
 

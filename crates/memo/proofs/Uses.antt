@@ -51,6 +51,7 @@ found_entered (x ∷ xs) k r e = go (same x.key k) refl (found_entered xs k r) e
     go false p ih q = there (ih q)
 
 pub nothing_entered : (xs : List Entry) (k : MemoKey) → lookup xs k ≡ Nothing → (e : Entry) → In e xs → e.key ≡ k → ⊥
+nothing_entered [] k n e m q = elim m [ ]
 nothing_entered (x ∷ xs) k n e (here p) q =
     no_both (sym (same_self x.key k (ap (λ (z : Entry). z.key) (sym p) ∙ q)) ∙ (pick_none (same x.key k) x.range (lookup xs k) n).0)
 nothing_entered (x ∷ xs) k n e (there m) q = nothing_entered xs k (pick_none (same x.key k) x.range (lookup xs k) n).1 e m q

@@ -2,7 +2,7 @@
 use Rattle.std.specs.Prelude.{◌≡◌, ℕ, zero, suc, ◌+◌, ◌-◌, ◌*◌, ◌/◌, ◌^◌, ◌<◌, ◌≤◌, Bool, true, false, ◌&&◌, List, [], ◌∷◌, ◌==◌, nat_le, nat_lt, refl}
 use Rattle.std.proofs.Common.{subst, pow-suc, arith, eqb-true, ltb-true, leb-true}
 use Rattle.memo.specs.declared.MemoKey.{MemoKey}
-use Rattle.memo.specs.Hash.{folded, mixed, mixOf, hashOf}
+use Rattle.memo.specs.Hash.{folded, mixed, mix_of, hash_of}
 use Rattle.memo.specs.Sizes.{SlotsFor}
 
 -- ---- the hash
@@ -24,10 +24,10 @@ hashes = (key 0 0 0, 12035550249420947055)
 
 abbrev pub Hashed : List (MemoKey × ℕ) → Type 0
 Hashed [] = Unit
-Hashed (r ∷ rs) = (hashOf r.0 ≡ r.1) × Hashed rs
+Hashed (r ∷ rs) = (hash_of r.0 ≡ r.1) × Hashed rs
 
 pub all_hashes : Hashed hashes
-unfolding folded mixed mixOf hashOf
+unfolding folded mixed mix_of hash_of
 all_hashes = (refl, (refl, (refl, (refl, (refl, (refl, (refl, (refl, tt))))))))
 
 -- ---- the slots
@@ -92,6 +92,7 @@ grows j (suc d) =
     subst (λ (z : ℕ). 8 * 2 ^ j * 7 / 10 ≤ 8 * 2 ^ z * 7 / 10) e (omega (arith, grows j d, pow-suc 2 (d + j)))
 
 half_most : (k j : ℕ) → j < k → 8 * 2 ^ j * 7 / 10 ≤ held_by_half k
+half_most zero j h = elim h [ ]
 half_most (suc k) j h = let e : k - j + j ≡ k = omega arith in subst (λ (z : ℕ). 8 * 2 ^ j * 7 / 10 ≤ 8 * 2 ^ z * 7 / 10) e (grows j (k - j))
 
 row_takes : (k slots fewest most : ℕ) → slots ≡ 8 * 2 ^ k → held_by_half k < fewest → most ≤ slots * 7 / 10 → (entries : ℕ) → fewest ≤ entries → entries ≤ most → SlotsFor entries slots

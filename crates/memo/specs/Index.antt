@@ -1,6 +1,6 @@
 -- The index of the entries, in slots that may hold anything: `Sound` says that the first n entries are found in it, and nothing of what else the memory holds.
 use Rattle.std.specs.Prelude.{◌≡◌, ℕ, ◌+◌, ◌%◌, ◌^◌, ◌<◌, ◌≤◌, Bool, true, false, List, length, ◌≢◌, slice_index, slice_index_or}
-use Rattle.memo.specs.Hash.{hashOf}
+use Rattle.memo.specs.Hash.{hash_of}
 use Rattle.memo.specs.Entries.{Entry, stored, word, key_at, listed}
 use Rattle.memo.specs.declared.MemoKey.{MemoKey}
 use Rattle.memo.specs.declared.MemoInsertion.{MemoInsertion}
@@ -34,7 +34,7 @@ pub record Sound (ss : List ℕ) (es : List (List ℕ)) (n : ℕ) : Type 0 where
   pub room : n ≤ length es
   pub within : (k : ℕ) → k < n → word es k 5 < length ss
   pub named : (k : ℕ) → k < n → slice_index ss (word es k 5) ≡ k
-  pub path : (k : ℕ) → k < n → Path ss es n (length ss) (hashOf (key_at es k)) (word es k 5)
+  pub path : (k : ℕ) → k < n → Path ss es n (length ss) (hash_of (key_at es k)) (word es k 5)
   pub single : (k j : ℕ) → k < n → j < n → key_at es k ≡ key_at es j → k ≡ j
   pub power : 0 < length ss → Power (length ss)
 
@@ -83,16 +83,16 @@ pub record Gap (ss : List ℕ) (es : List (List ℕ)) (n : ℕ) (key : MemoKey) 
   pub t : ℕ
   pub turns : t < length ss
   pub slot : s < length ss
-  pub ends : place (hashOf key) t (length ss) ≡ s
+  pub ends : place (hash_of key) t (length ss) ≡ s
   pub dead : Live ss es n s → ⊥
-  pub passed : (j : ℕ) → j < t → Passed ss es n key (place (hashOf key) j (length ss))
+  pub passed : (j : ℕ) → j < t → Passed ss es n key (place (hash_of key) j (length ss))
 
 pub record Hit (es : List (List ℕ)) (n : ℕ) (key : MemoKey) (k : ℕ) : Type 0 where
   pub low : k < n
   pub keyed : key_at es k ≡ key
 
 pub record Round (ss : List ℕ) (es : List (List ℕ)) (n : ℕ) (key : MemoKey) : Type 0 where
-  pub passed : (j : ℕ) → j < length ss → Passed ss es n key (place (hashOf key) j (length ss))
+  pub passed : (j : ℕ) → j < length ss → Passed ss es n key (place (hash_of key) j (length ss))
 
 abbrev pub Spotted : List ℕ → List (List ℕ) → ℕ → MemoKey → Spot → Type 0
 Spotted ss es n key (Free s) = Gap ss es n key s

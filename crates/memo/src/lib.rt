@@ -1,13 +1,15 @@
 // The memo of the solver: for a key (node, column, indent) the range of kept candidates that was found for it.
 // It stands in lent memory that may hold anything at the start of a call: a dense list of entries, and an index whose slot is
 // believed only where it names one of this call's entries and that entry names the slot back.
+#![tactic(auto)]
+
 ghost use Rattle.std.specs.Prelude.{◌≡◌, ◌+◌, ◌*◌, ◌%◌, ◌^◌, ◌<◌, ◌≤◌, length};
-ghost use Rattle.memo.specs.Hash.{mixOf, hashOf};
+ghost use Rattle.memo.specs.Hash.{mix_of, hash_of};
 ghost use Rattle.memo.specs.Sizes.{SlotsFor};
 ghost use Rattle.memo.specs.Entries.{lookup, listed};
 ghost use Rattle.memo.specs.Index.{Power, Sound, Named, Told, Spotted, Insertion};
 
-#[derive(Drop)]
+#[derive(Clone, Copy)]
 pub struct MemoKey {
     pub node: u32,
     pub column: u32,
@@ -15,27 +17,27 @@ pub struct MemoKey {
 }
 
 // A run of kept candidates.
-#[derive(Drop)]
+#[derive(Clone, Copy)]
 pub struct CandidateRange {
     pub start: u64,
     pub len: u64,
 }
 
-#[derive(Drop)]
+#[derive(Clone, Copy)]
 pub enum MemoLookup {
     Found(CandidateRange),
     Nothing,
 }
 
 // So many entries are there now; or the size is reached, and one of `needed` would do.
-#[derive(Drop)]
+#[derive(Clone, Copy)]
 pub enum MemoInsertion {
     Inserted(usize),
     Full { needed: u64 },
 }
 
 // Where a search for a key ends: at a slot that is not live, at the key's entry, or nowhere.
-#[derive(Drop)]
+#[derive(Clone, Copy)]
 pub enum Spot {
     Free(usize),
     Taken(usize),
@@ -58,7 +60,7 @@ pub fn wrapping_mul(a: u64, b: u64) -> u64
 }
 
 pub fn mix(value: u64) -> u64
-    ensures { result ≡ mixOf value }
+    ensures { result ≡ mix_of value }
 {
     let a = std::num::wrapping_add_u64(value, 0x9e3779b97f4a7c15);
     let b = wrapping_mul(a ^ (a >> 30), 0xbf58476d1ce4e5b9);
@@ -67,7 +69,7 @@ pub fn mix(value: u64) -> u64
 }
 
 pub fn memo_hash(key: MemoKey) -> u64
-    ensures { result ≡ hashOf key }
+    ensures { result ≡ hash_of key }
 {
     mix(((key.node as u64) << 32 | (key.column as u64)) ^ mix(key.indent as u64))
 }

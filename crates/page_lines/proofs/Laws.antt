@@ -1,9 +1,9 @@
 -- Laws of pieces put into a slice.
 use mathlib.Core.Path.{◌≡◌, refl, sym, ap, ◌∙◌}
-use mathlib.Core.List.{List, [], ◌∷◌, ◌++◌, append_nil, append_assoc}
-use Prim.Native.Nat.{ℕ, suc, ◌+◌, ◌-◌, ◌≤◌, ◌<◌}
+use mathlib.Core.List.{List, [], ◌∷◌, ◌++◌, append-nil, append_assoc}
+use Prim.Native.Nat.{ℕ, suc, ◌+◌, ◌≤◌, ◌<◌}
 use native.Mathlib.Omega.{arith}
-use native.Mathlib.Nat.{add_zero}
+use native.Mathlib.Nat.{add-zero}
 use native.Mathlib.Numerals.{add-one}
 use lib.ListN.{length, take, get_or, set, length-set, length-append}
 use lib.Seq.{take-suc, take-suc-set, take_all, take_at, length-take-le}
@@ -16,7 +16,7 @@ pub record Going (before text out : List ℕ) (at i : ℕ) : Type 0 where
   pub front : take (at + i) out ≡ take at before ++ take i text
 
 pub going_begin : (before text : List ℕ) (at : ℕ) → Going before text before at 0
-going_begin before text at = record { within = omega arith; same_length = refl; front = rw (add_zero at) (sym (append_nil (take at before))) }
+going_begin before text at = record { within = omega arith; same_length = refl; front = rw (add-zero at) (sym (append-nil (take at before))) }
 
 pub going_step : (before text out : List ℕ) (at i : ℕ) → at + length text ≤ length before → i < length text → Going before text out at i
     → Going before text (set out (at + i) (get_or text i 0)) at (i + 1)

@@ -1,4 +1,6 @@
 // The lines that the program `page` writes, put into a lent slice.
+#![tactic(auto)]
+
 ghost use Rattle.std.specs.Prelude.{◌≡◌, ◌+◌, ◌*◌, ◌≤◌, ◌^◌, length};
 ghost use Rattle.page_numerals.specs.Digits.{decimal, hexadecimal};
 ghost use Rattle.page_lines.specs.Lines.{spaced, refused_line, page_line, page_text};

@@ -1,9 +1,9 @@
 -- The digits of a number of two parts are the digits of the parts.
 use mathlib.Core.Path.{◌≡◌, refl, sym, ap, ◌∙◌}
-use mathlib.Core.List.{List, [], ◌∷◌, ◌++◌, append_assoc, append_nil}
+use mathlib.Core.List.{List, [], ◌∷◌, ◌++◌, append_assoc, append-nil}
 use Prim.Native.Nat.{ℕ, zero, suc, ◌+◌, ◌-◌, ◌*◌, ◌/◌, ◌%◌, ◌^◌, ◌≤◌, ◌<◌}
 use native.Mathlib.Omega.{arith}
-use native.Mathlib.Nat.{add-suc, add_zero, pow-zero, pow-suc, mul_assoc, add-mul-div_right, add-mul-mod_self_right, div-lt_iff_lt-mul, add_comm, mul-one}
+use native.Mathlib.Nat.{add-suc, add-zero, pow-zero, pow-suc, mul_assoc, add-mul-div_right, add-mul-mod_self_right, div-lt_iff_lt-mul, add_comm, mul-one}
 use lib.ListN.{length, take, drop, length-append, length-drop}
 use lib.Seq.{drop-drop, take_at, drop_at, take_all}
 use Rattle.page_numerals.specs.Digits.{digit, digits}
@@ -21,8 +21,8 @@ module _ (base : ℕ) (p : 0 < base) where
   unfolding digits
   parts j zero h l b =
       let o : l ≡ 0 = omega (arith, pow-zero base) in
-      let e : h * base ^ 0 + l ≡ h = rw (pow-zero base, mul-one h, o) (add_zero h) in
-      rw (add_zero j, e) (sym (append_nil (digits base j h)))
+      let e : h * base ^ 0 + l ≡ h = rw (pow-zero base, mul-one h, o) (add-zero h) in
+      rw (add-zero j, e) (sym (append-nil (digits base j h)))
   parts j (suc k) h l b =
       let q : l / base < base ^ k = (div-lt_iff_lt-mul p).1 (rw (pow-suc base k) at b) in
       let e : h * base ^ suc k ≡ h * base ^ k * base = ap (λ (z : ℕ). h * z) (pow-suc base k) ∙ sym (mul_assoc h (base ^ k) base) in
@@ -44,5 +44,5 @@ two_runs base k h l out first second p b r e f =
     let m : length (drop k first) ≡ length first - k = length-drop k first in
     let a : take (length first - k) (drop k first) ≡ drop k first = take_all (length first - k) (drop k first) (omega arith) in
     let z : drop (length first - k) (drop k first) ≡ [] = nothing _ (length-drop (length first - k) (drop k first) ∙ omega arith) in
-    rw (f, t, a, z, d, drop-drop k k out, append_nil, parts base p k k h l b)
+    rw (f, t, a, z, d, drop-drop k k out, append-nil, parts base p k k h l b)
     (sym (append_assoc (digits base k h) (digits base k l) (drop (k + k) out)))

@@ -1,6 +1,6 @@
 -- Laws for the loops that write and count digits.
 use mathlib.Core.Path.{◌≡◌, refl, sym, ap, ap₂, ◌∙◌}
-use mathlib.Core.List.{List, [], ◌∷◌, ◌++◌, append_assoc, append_nil}
+use mathlib.Core.List.{List, [], ◌∷◌, ◌++◌, append_assoc, append-nil}
 use Prim.Native.Nat.{ℕ, zero, suc, ◌+◌, ◌-◌, ◌/◌, ◌%◌, ◌^◌, ◌≤◌, ◌<◌}
 use native.Mathlib.Omega.{arith}
 use native.Mathlib.Nat.{pow-suc, sub-zero}
@@ -19,7 +19,7 @@ pub record Left (base n count : ℕ) (before out : List ℕ) (m i : ℕ) : Type 
 pub left_begin : (base n count : ℕ) (out : List ℕ) → Left base n count out out n count
 left_begin base n count out =
     let z : count - count ≡ 0 = omega arith in
-    record { within = omega arith; same_length = refl; past = refl; rest = rw z (sym (append_nil (digits base count n))) }
+    record { within = omega arith; same_length = refl; past = refl; rest = rw z (sym (append-nil (digits base count n))) }
 
 pub left_step : (base n count : ℕ) (before out : List ℕ) (m j : ℕ) → count ≤ length before → Left base n count before out m (suc j)
     → Left base n count before (set out j (digit (m % base))) (m / base) j

@@ -1,4 +1,6 @@
 // Numbers as text, written at the front of a lent slice.
+#![tactic(auto)]
+
 ghost use Rattle.std.specs.Prelude.{◌≡◌, ◌++◌, ◌+◌, ◌*◌, ◌≤◌, ◌<◌, ◌^◌, length, drop};
 ghost use Rattle.page_numerals.specs.Digits.{digit, digits, width, decimal, hexadecimal};
 

@@ -6,15 +6,15 @@ use Rattle.file_fields.specs.Fields.{got, byte_at, field_at, formed, bit}
 use Rattle.page_setting.specs.declared.Setting.{Setting}
 
 module _ (s : List ℕ) where
-  unfoldable pub sMap : Step
-  sMap = formed 15 (byte_at s (got 0 0))
+  unfoldable pub s_map : Step
+  s_map = formed 15 (byte_at s (got 0 0))
 
-  unfoldable pub sWidth : Step
-  sWidth = field_at s (bit sMap.value 1) sMap
+  unfoldable pub s_width : Step
+  s_width = field_at s (bit s_map.value 1) s_map
 
-  unfoldable pub sNewlineCost : Step
-  sNewlineCost = field_at s (bit sMap.value 2) sWidth
+  unfoldable pub s_newline_cost : Step
+  s_newline_cost = field_at s (bit s_map.value 2) s_width
 
   -- the setting, and the step after it: where the file starts, or the refusal
-  unfoldable pub settingAt : Setting
-  settingAt = record { width = sWidth.value; newline_cost = sNewlineCost.value; policy = sMap.value / 4 % 2; rule = sMap.value / 8 % 2 + 1; next = sNewlineCost }
+  unfoldable pub setting_at : Setting
+  setting_at = record { width = s_width.value; newline_cost = s_newline_cost.value; policy = s_map.value / 4 % 2; rule = s_map.value / 8 % 2 + 1; next = s_newline_cost }

@@ -1,11 +1,13 @@
 // The setting in front of the file in the input of `page`: a map byte, and the fields whose bits stand.
+#![tactic(auto)]
+
 ghost use Rattle.std.specs.Prelude.{◌≡◌};
-ghost use Rattle.page_setting.specs.Setting.{settingAt};
+ghost use Rattle.page_setting.specs.Setting.{setting_at};
 
 use file_fields::Step;
 
 // Page width, newline cost, policy, rule, and the step after them.
-#[derive(Drop)]
+#[derive(Clone, Copy)]
 pub struct Setting {
     pub width: u32,
     pub newline_cost: u32,
@@ -15,7 +17,7 @@ pub struct Setting {
 }
 
 pub fn setting_at(s: &[u8]) -> Setting
-    ensures { result ≡ settingAt s.now }
+    ensures { result ≡ setting_at s.now }
 {
     let map = file_fields::formed(
         15,

@@ -7,7 +7,7 @@ use native.Mathlib.Nat.{pow-le-pow_right}
 use lib.ListN.{length, take, drop, length-map, length-drop}
 use lib.Seq.{length-take-le, take_all}
 use Rattle.page_setting.specs.declared.Setting.{Setting}
-use Rattle.page_setting.specs.Setting.{settingAt}
+use Rattle.page_setting.specs.Setting.{setting_at}
 use Rattle.page_lines.specs.Lines.{refused_line, page_text}
 use Rattle.page_lines.specs.Put.{Front}
 use Rattle.cost.specs.declared.ConsumerCost.{ConsumerCost}
@@ -119,7 +119,7 @@ shown {file} {o} {b} {l} {output₀} {output} {rows₀} {rows} {r} g e z h t = r
 
 -- ---- the program's text
 
-pub at_inside : (input : List ℕ) (st : Setting) → st ≡ settingAt input → st.next.at ≤ length input
+pub at_inside : (input : List ℕ) (st : Setting) → st ≡ setting_at input → st.next.at ≤ length input
 at_inside input st e = subst (λ (s : Setting). s.next.at ≤ length input) (sym e) (setting_inside input)
 
 module _ {input out : List ℕ} {k : ℕ} where
@@ -133,7 +133,7 @@ module _ {input out : List ℕ} {k : ℕ} where
   pub prints_too_long : 32768 < length input → Front (refused_line 4) out k → Prints input out k
   prints_too_long l f = printing (too_long l) (right_long input) f
 
-  module _ (st : Setting) (e : st ≡ settingAt input) (h : length input ≤ 32768) where
+  module _ (st : Setting) (e : st ≡ setting_at input) (h : length input ≤ 32768) where
     pub prints_fault : (st.next.fault ≡ 0 → ⊥) → Front (refused_line st.next.fault) out k → Prints input out k
     prints_fault n f =
         let m : setting_fault input ≡ 0 → ⊥ = λ z. n (ap (λ (s : Setting). s.next.fault) e ∙ z) in
@@ -145,8 +145,8 @@ module _ {input out : List ℕ} {k : ℕ} where
         → Prints input out k
     prints_answer n f = go (subst (λ (s : Setting). Shown (take (length input - s.next.at) (drop s.next.at input)) (settings_of s) out k) e f)
       where
-        go : Shown (take (length input - (settingAt input).next.at) (file_in input)) (settings_in input) out k → Prints input out k
+        go : Shown (take (length input - (setting_at input).next.at) (file_in input)) (settings_in input) out k → Prints input out k
         go g = printing (answered h (sym (ap (λ (s : Setting). s.next.fault) e) ∙ n) g.answer (rw whole at g.answers)) (right_answer (rw whole at g.promised)) g.text
           where
-            whole : take (length input - (settingAt input).next.at) (file_in input) ≡ file_in input
-            whole = take_all (length input - (settingAt input).next.at) (file_in input) (omega (arith, length-drop (settingAt input).next.at input))
+            whole : take (length input - (setting_at input).next.at) (file_in input) ≡ file_in input
+            whole = take_all (length input - (setting_at input).next.at) (file_in input) (omega (arith, length-drop (setting_at input).next.at input))

@@ -2,10 +2,10 @@
 use Rattle.std.specs.Prelude.{refl, List, [], ◌∷◌, ℕ}
 use Rattle.std.proofs.Common.{arith}
 use Rattle.file_fields.specs.Fields.{byte_at, word_at, nonzero, field_at, formed}
-use Rattle.page_setting.specs.Setting.{settingAt, sMap, sWidth, sNewlineCost}
+use Rattle.page_setting.specs.Setting.{setting_at, s_map, s_width, s_newline_cost}
 use Rattle.page_numerals.specs.Digits.{digit, digits, width}
 use Rattle.page_lines.specs.Lines.{page_line, page_text}
-use Rattle.answer.specs.Cases.{example}
+use Rattle.answer.proofs.Cases.{example}
 use Rattle.page_text.specs.Printed.{Printed, answered}
 
 -- W 80, and the file with the one Text `ab`
@@ -17,5 +17,5 @@ abbrev example_text : List ℕ
 example_text = 112 ∷ 97 ∷ 103 ∷ 101 ∷ 32 ∷ 50 ∷ 32 ∷ 48 ∷ 48 ∷ 48 ∷ 48 ∷ 48 ∷ 48 ∷ 48 ∷ 48 ∷ 48 ∷ 48 ∷ 48 ∷ 48 ∷ 48 ∷ 48 ∷ 48 ∷ 48 ∷ 48 ∷ 48 ∷ 48 ∷ 48 ∷ 48 ∷ 48 ∷ 48 ∷ 48 ∷ 48 ∷ 48 ∷ 48 ∷ 48 ∷ 48 ∷ 48 ∷ 48 ∷ 48 ∷ 32 ∷ 48 ∷ 32 ∷ 48 ∷ 10 ∷ 97 ∷ 98 ∷ 10 ∷ []
 
 pub example_printed : Printed example_input example_text
-unfolding byte_at word_at nonzero field_at formed settingAt sMap sWidth sNewlineCost digit digits width page_line page_text
+unfolding byte_at word_at nonzero field_at formed setting_at s_map s_width s_newline_cost digit digits width page_line page_text
 example_printed = answered (omega arith) refl _ example

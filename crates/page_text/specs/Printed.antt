@@ -1,7 +1,7 @@
 -- What the program `page` writes, from the bytes that it reads (document 01, "Calls", the last paragraph).
 use Rattle.std.specs.Prelude.{◌≡◌, List, ℕ, ◌≤◌, ◌<◌, length, take, drop}
 use Rattle.page_setting.specs.declared.Setting.{Setting}
-use Rattle.page_setting.specs.Setting.{settingAt}
+use Rattle.page_setting.specs.Setting.{setting_at}
 use Rattle.page_lines.specs.Lines.{refused_line, page_text}
 use Rattle.machine.specs.Numbers.{Numbered}
 use Rattle.machine.specs.Events.{Bounds, Counts}
@@ -31,13 +31,13 @@ settings_of s = record { width = s.width; newline_cost = s.newline_cost; policy 
 
 -- what the setting in front says, its own refusal (0: none), and the file after it
 abbrev pub settings_in : List ℕ → Settings
-settings_in input = settings_of (settingAt input)
+settings_in input = settings_of (setting_at input)
 
 abbrev pub setting_fault : List ℕ → ℕ
-setting_fault input = (settingAt input).next.fault
+setting_fault input = (setting_at input).next.fault
 
 abbrev pub file_in : List ℕ → List ℕ
-file_in input = drop (settingAt input).next.at input
+file_in input = drop (setting_at input).next.at input
 
 -- an answer as text: `refused N`; or `page`, work, overflow, burden and the number of spans, and on the next line the page
 abbrev pub text_of : Answer → List ℕ

@@ -7,14 +7,15 @@ use Rattle.std.proofs.Math.Decide.{ℕ_discrete, dec_lt}
 use borrow.Author.Tests.{ltb-true, leb-true}
 use Rattle.file_fields.specs.declared.Step.{Step}
 use Rattle.file_fields.specs.Fields.{pick, got, byte_at, word_at, nonzero, field_at, formed}
-use Rattle.page_setting.specs.Setting.{settingAt, sMap, sWidth, sNewlineCost}
+use Rattle.page_setting.specs.Setting.{setting_at, s_map, s_width, s_newline_cost}
 use Rattle.page_lines.specs.Lines.{refused_line}
 use Rattle.file_encode.specs.Fields.{Bytes}
 use Rattle.machine.specs.Numbers.{listed}
 use Rattle.machine.specs.Answer.{Answer}
 use Rattle.answer.specs.Page.{Promised, right_page, right_refusal}
-use Rattle.answer.specs.Exactly.{answered as some_answer, answers_one}
-use Rattle.answer.specs.Demand.{promised}
+use Rattle.answer.specs.Exactly.{answers_one}
+use Rattle.answer.proofs.Exactly.{answered as some_answer}
+use Rattle.answer.proofs.Demand.{promised}
 use Rattle.page_text.specs.Printed.{page_bounds, settings_in, setting_fault, file_in, text_of, Printed, too_long, wrong_setting, answered, Right, page, refusal}
 
 -- ---- the setting ends within the input, and is refused by 2 or 3
@@ -52,11 +53,11 @@ module _ (s : List ℕ) where
   kept_field on p k =
       kept_pick s (eqb p.fault 0) (λ e. kept_pick s on (λ l. kept_nonzero (word_at s p.at) (kept_word p.at k.inside)) (record { inside = k.inside; small = omega arith })) k
 
-  kept_setting : Kept s (settingAt s).next
-  unfolding settingAt sMap sWidth sNewlineCost
+  kept_setting : Kept s (setting_at s).next
+  unfolding setting_at s_map s_width s_newline_cost
   kept_setting = kept_field _ _ (kept_field _ _ (kept_formed _ _ (kept_byte (got 0 0) (record { inside = omega arith; small = omega arith }))))
 
-  pub setting_inside : (settingAt s).next.at ≤ length s
+  pub setting_inside : (setting_at s).next.at ≤ length s
   setting_inside = kept_setting.inside
 
 -- ---- exactly one text
@@ -108,4 +109,4 @@ printed_right input z (wrong_setting h f) = right_fault input f
 printed_right input z (answered h f a p) = right_answer (promised (dropped input z) p)
   where
     dropped : (s : List ℕ) → Bytes s → Bytes (file_in s)
-    dropped s z = record { byte = λ i. rw get_or-drop (z.byte ((settingAt s).next.at + i)) }
+    dropped s z = record { byte = λ i. rw get_or-drop (z.byte ((setting_at s).next.at + i)) }

@@ -1,4 +1,6 @@
 // All that the program `page` writes, as one function of what it reads; and a call in memory of the program's sizes.
+#![tactic(auto)]
+
 ghost use Rattle.std.specs.Prelude.{◌≡◌, ◌≤◌, length};
 ghost use Rattle.solve_workspace.specs.Meets.{limits};
 ghost use Rattle.render.specs.Call.{settings};

@@ -6,7 +6,7 @@ use Rattle.layout.specs.Document.{Word}
 use Rattle.layout.specs.Layout.{put, line, join, mark, fee}
 use Rattle.plan.specs.declared.PlanNode.TheVariants.{Text, Newline, Concat, Annotate, Penalty}
 use Rattle.plan.specs.Arena.{arena}
-use Rattle.plan.specs.Layouts.{layoutsAfter, layouts, layoutAt}
+use Rattle.plan.specs.Layouts.{read_layouts_after, layouts, layout_at}
 
 -- rows as they stand in memory: first, second, kind
 abbrev rows : List (List ℕ)
@@ -17,6 +17,6 @@ pub read : arena rows 5
 unfolding arena
 read = refl
 
-pub unfolded : (texts : ℕ → Word) → layoutAt texts (arena rows 5) 4 ≡ fee 30 (mark 9 (join (put (texts 7)) (line 2)))
-unfolding arena layouts layoutsAfter
+pub unfolded : (texts : ℕ → Word) → layout_at texts (arena rows 5) 4 ≡ fee 30 (mark 9 (join (put (texts 7)) (line 2)))
+unfolding arena layouts read_layouts_after
 unfolded texts = refl

@@ -8,12 +8,12 @@ use Rattle.plan.specs.declared.PendingPlan.TheVariants.{Existing, Empty as NewEm
 use Rattle.plan.specs.declared.PlanRoom.{PlanRoom}
 use Rattle.plan.specs.declared.PlanRoom.TheVariants.{Enough, Full}
 use Rattle.plan.specs.declared.Committed.{Committed}
-use Rattle.plan.specs.Records.{nodeAt}
+use Rattle.plan.specs.Records.{node_at}
 
 -- the first n rows
 unfoldable pub arena : List (List ℕ) → ℕ → List PlanNode
 arena rows zero = []
-arena rows (suc n) = arena rows n ++ (nodeAt rows n ∷ [])
+arena rows (suc n) = arena rows n ++ (node_at rows n ∷ [])
 
 -- a pending plan is one of the arena, or a record that would be new there
 pub data Pending : Type 0 where

@@ -16,22 +16,22 @@ layout_of texts ps (Annotate a c) = mark a.0 (get_or ps c.0 blank)
 layout_of texts ps (Penalty n c) = fee n (get_or ps c.0 blank)
 
 -- ps, and the layouts of further records, each made of those before it
-unfoldable pub layoutsAfter : (ℕ → Word) → List Plan → List PlanNode → List Plan
-layoutsAfter texts ps [] = ps
-layoutsAfter texts ps (x ∷ l) = layoutsAfter texts (ps ++ (layout_of texts ps x ∷ [])) l
+unfoldable pub read_layouts_after : (ℕ → Word) → List Plan → List PlanNode → List Plan
+read_layouts_after texts ps [] = ps
+read_layouts_after texts ps (x ∷ l) = read_layouts_after texts (ps ++ (layout_of texts ps x ∷ [])) l
 
 -- the layouts of an arena's plans
 unfoldable pub layouts : (ℕ → Word) → List PlanNode → List Plan
-layouts texts l = layoutsAfter texts [] l
+layouts texts l = read_layouts_after texts [] l
 
 -- the layout of plan i
-abbrev pub layoutAt : (ℕ → Word) → List PlanNode → ℕ → Plan
-layoutAt texts l i = get_or (layouts texts l) i blank
+abbrev pub layout_at : (ℕ → Word) → List PlanNode → ℕ → Plan
+layout_at texts l i = get_or (layouts texts l) i blank
 
 -- the layout of a pending plan
-abbrev pub pendingLayout : (ℕ → Word) → List PlanNode → Pending → Plan
-pendingLayout texts l (old p) = layoutAt texts l p.0
-pendingLayout texts l (new x) = layout_of texts (layouts texts l) x
+abbrev pub pending_layout : (ℕ → Word) → List PlanNode → Pending → Plan
+pending_layout texts l (old p) = layout_at texts l p.0
+pending_layout texts l (new x) = layout_of texts (layouts texts l) x
 
 -- a record names texts below t and plans below n alone
 abbrev pub Fine : ℕ → ℕ → PlanNode → Type 0

@@ -16,24 +16,24 @@ node_of (suc (suc (suc (suc zero)))) a b = Annotate (record { 0 = a }) (record {
 node_of (suc (suc (suc (suc (suc k))))) a b = Penalty a (record { 0 = b })
 
 -- the node of row i
-abbrev pub nodeAt : List (List ℕ) → ℕ → PlanNode
-nodeAt rows i = node_of (get_or (get_or rows i []) 2 0) (get_or (get_or rows i []) 0 0) (get_or (get_or rows i []) 1 0)
+abbrev pub node_at : List (List ℕ) → ℕ → PlanNode
+node_at rows i = node_of (get_or (get_or rows i []) 2 0) (get_or (get_or rows i []) 0 0) (get_or (get_or rows i []) 1 0)
 
-abbrev pub recordOf : PendingPlan → PlanRecord
-recordOf (Existing p) = record { first = p.0; second = 0; kind = 6 }
-recordOf NewEmpty = record { first = 0; second = 0; kind = 0 }
-recordOf (NewText t) = record { first = t.0; second = 0; kind = 1 }
-recordOf (NewNewline i) = record { first = i; second = 0; kind = 2 }
-recordOf (NewConcat l r) = record { first = l.0; second = r.0; kind = 3 }
-recordOf (NewAnnotate a c) = record { first = a.0; second = c.0; kind = 4 }
-recordOf (NewPenalty n c) = record { first = n; second = c.0; kind = 5 }
+abbrev pub record_of : PendingPlan → PlanRecord
+record_of (Existing p) = record { first = p.0; second = 0; kind = 6 }
+record_of NewEmpty = record { first = 0; second = 0; kind = 0 }
+record_of (NewText t) = record { first = t.0; second = 0; kind = 1 }
+record_of (NewNewline i) = record { first = i; second = 0; kind = 2 }
+record_of (NewConcat l r) = record { first = l.0; second = r.0; kind = 3 }
+record_of (NewAnnotate a c) = record { first = a.0; second = c.0; kind = 4 }
+record_of (NewPenalty n c) = record { first = n; second = c.0; kind = 5 }
 
 -- the pending plan of kind, first and second; kinds above 6 do not arise
-abbrev pub pendingOf : ℕ → ℕ → ℕ → PendingPlan
-pendingOf zero a b = NewEmpty
-pendingOf (suc zero) a b = NewText (record { 0 = a })
-pendingOf (suc (suc zero)) a b = NewNewline a
-pendingOf (suc (suc (suc zero))) a b = NewConcat (record { 0 = a }) (record { 0 = b })
-pendingOf (suc (suc (suc (suc zero)))) a b = NewAnnotate (record { 0 = a }) (record { 0 = b })
-pendingOf (suc (suc (suc (suc (suc zero))))) a b = NewPenalty a (record { 0 = b })
-pendingOf (suc (suc (suc (suc (suc (suc k)))))) a b = Existing (record { 0 = a })
+abbrev pub pending_of : ℕ → ℕ → ℕ → PendingPlan
+pending_of zero a b = NewEmpty
+pending_of (suc zero) a b = NewText (record { 0 = a })
+pending_of (suc (suc zero)) a b = NewNewline a
+pending_of (suc (suc (suc zero))) a b = NewConcat (record { 0 = a }) (record { 0 = b })
+pending_of (suc (suc (suc (suc zero)))) a b = NewAnnotate (record { 0 = a }) (record { 0 = b })
+pending_of (suc (suc (suc (suc (suc zero))))) a b = NewPenalty a (record { 0 = b })
+pending_of (suc (suc (suc (suc (suc (suc k)))))) a b = Existing (record { 0 = a })

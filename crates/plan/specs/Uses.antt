@@ -1,8 +1,8 @@
 -- What callers go by: the arena read by number, layouts as the arena grows, the words of a pending plan.
 use Rattle.std.specs.Prelude.{◌≡◌, Bool, true, false, cond, eqb, leb}
 use Rattle.std.proofs.Math.Path.{refl, sym, ap, subst}
-use Rattle.std.proofs.Common.{◌∙◌, ap₂, add-one, add_zero, eqb-true, leb-true, leb-false}
-use mathlib.Core.List.{List, [], ◌∷◌, ◌++◌, append_nil}
+use Rattle.std.proofs.Common.{◌∙◌, ap₂, add-one, add-zero, eqb-true, leb-true, leb-false}
+use mathlib.Core.List.{List, [], ◌∷◌, ◌++◌, append-nil}
 use Prim.Native.Nat.{ℕ, zero, suc, ◌+◌, ◌≤◌, ◌<◌}
 use native.Mathlib.Omega.{arith}
 use Rattle.std.proofs.Math.ListN.{length, get_or, length-append}
@@ -16,9 +16,9 @@ use Rattle.plan.specs.declared.PendingPlan.TheVariants.{Existing, Empty as NewEm
 use Rattle.plan.specs.declared.PlanId.{PlanId}
 use Rattle.plan.specs.declared.Committed.{Committed}
 use Rattle.plan.specs.declared.PlanRoom.TheVariants.{Enough, Full}
-use Rattle.plan.specs.Records.{nodeAt, recordOf, pendingOf}
+use Rattle.plan.specs.Records.{node_at, record_of, pending_of}
 use Rattle.plan.specs.Arena.{arena, Pending, old, new, additions, numbered, Committing, room_for}
-use Rattle.plan.specs.Layouts.{layout_of, layoutsAfter, layouts, layoutAt, pendingLayout, Fine, PendingFine, Ranked}
+use Rattle.plan.specs.Layouts.{layout_of, read_layouts_after, layouts, layout_at, pending_layout, Fine, PendingFine, Ranked}
 
 -- ---- the arena, read by number
 
@@ -34,7 +34,7 @@ get_before d (y ∷ l) m (suc i) h = get_before d l m i (omega arith)
 pub arena_length : (rows : List (List ℕ)) (n : ℕ) → length (arena rows n) ≡ n
 unfolding arena
 arena_length rows zero = refl
-arena_length rows (suc n) = length-append (arena rows n) (nodeAt rows n ∷ []) ∙ ap (λ z. z + 1) (arena_length rows n) ∙ add-one n
+arena_length rows (suc n) = length-append (arena rows n) (node_at rows n ∷ []) ∙ ap (λ z. z + 1) (arena_length rows n) ∙ add-one n
 
 -- cases of i < n + 1
 last_or : (i n : ℕ) (P : ℕ → Type 0) → i < suc n → (i < n → P i) → P n → P i
@@ -45,31 +45,31 @@ last_or i n P h before here = go (eqb i n) refl
     go false e = let w = eqb-false i n e in before (omega (arith, w))
 
 -- what `plan_node` answers for a number below the count
-pub arena_node : (rows : List (List ℕ)) (n i : ℕ) → i < n → get_or (arena rows n) i Empty ≡ nodeAt rows i
+pub arena_node : (rows : List (List ℕ)) (n i : ℕ) → i < n → get_or (arena rows n) i Empty ≡ node_at rows i
 unfolding arena
 arena_node rows zero i h = absurd (omega arith)
 arena_node rows (suc n) i h =
-    last_or i n (λ z. get_or (arena rows n ++ (nodeAt rows n ∷ [])) z Empty ≡ nodeAt rows z) h
-    (λ l. get_before Empty (arena rows n) (nodeAt rows n ∷ []) i (rw (arena_length rows n) l) ∙ arena_node rows n i l)
-    (subst (λ z. get_or (arena rows n ++ (nodeAt rows n ∷ [])) z Empty ≡ nodeAt rows n) (arena_length rows n) (get_last Empty (arena rows n) (nodeAt rows n)))
+    last_or i n (λ z. get_or (arena rows n ++ (node_at rows n ∷ [])) z Empty ≡ node_at rows z) h
+    (λ l. get_before Empty (arena rows n) (node_at rows n ∷ []) i (rw (arena_length rows n) l) ∙ arena_node rows n i l)
+    (subst (λ z. get_or (arena rows n ++ (node_at rows n ∷ [])) z Empty ≡ node_at rows n) (arena_length rows n) (get_last Empty (arena rows n) (node_at rows n)))
 
 -- ---- layouts as the arena grows
 
 module _ (texts : ℕ → Word) where
-  after_append : (ps : List Plan) (l m : List PlanNode) → layoutsAfter texts ps (l ++ m) ≡ layoutsAfter texts (layoutsAfter texts ps l) m
-  unfolding layoutsAfter
+  after_append : (ps : List Plan) (l m : List PlanNode) → read_layouts_after texts ps (l ++ m) ≡ read_layouts_after texts (read_layouts_after texts ps l) m
+  unfolding read_layouts_after
   after_append ps [] m = refl
   after_append ps (x ∷ l) m = after_append (ps ++ (layout_of texts ps x ∷ [])) l m
 
-  after_length : (ps : List Plan) (l : List PlanNode) → length (layoutsAfter texts ps l) ≡ length ps + length l
-  unfolding layoutsAfter
+  after_length : (ps : List Plan) (l : List PlanNode) → length (read_layouts_after texts ps l) ≡ length ps + length l
+  unfolding read_layouts_after
   after_length ps [] = omega arith
   after_length ps (x ∷ l) =
       let y = layout_of texts ps x in
       omega (arith, after_length (ps ++ (y ∷ [])) l, length-append ps (y ∷ []))
 
-  after_old : (ps : List Plan) (l : List PlanNode) (i : ℕ) → i < length ps → get_or (layoutsAfter texts ps l) i blank ≡ get_or ps i blank
-  unfolding layoutsAfter
+  after_old : (ps : List Plan) (l : List PlanNode) (i : ℕ) → i < length ps → get_or (read_layouts_after texts ps l) i blank ≡ get_or ps i blank
+  unfolding read_layouts_after
   after_old ps [] i h = refl
   after_old ps (x ∷ l) i h =
       let y = layout_of texts ps x in
@@ -80,17 +80,17 @@ module _ (texts : ℕ → Word) where
   layouts_length l = omega (arith, after_length [] l)
 
   -- an old number keeps its layout
-  pub layout_grow : (l m : List PlanNode) (i : ℕ) → i < length l → layoutAt texts (l ++ m) i ≡ layoutAt texts l i
+  pub layout_grow : (l m : List PlanNode) (i : ℕ) → i < length l → layout_at texts (l ++ m) i ≡ layout_at texts l i
   unfolding layouts
   layout_grow l m i h =
-      ap (λ z. get_or z i blank) (after_append [] l m) ∙ after_old (layoutsAfter texts [] l) m i (omega (arith, after_length [] l))
+      ap (λ z. get_or z i blank) (after_append [] l m) ∙ after_old (read_layouts_after texts [] l) m i (omega (arith, after_length [] l))
 
   pub layouts_new : (l : List PlanNode) (x : PlanNode) → layouts texts (l ++ (x ∷ [])) ≡ layouts texts l ++ (layout_of texts (layouts texts l) x ∷ [])
-  unfolding layouts layoutsAfter
+  unfolding layouts read_layouts_after
   layouts_new l x = after_append [] l (x ∷ [])
 
   -- a new one has the layout of its record
-  pub layout_new : (l : List PlanNode) (x : PlanNode) → layoutAt texts (l ++ (x ∷ [])) (length l) ≡ layout_of texts (layouts texts l) x
+  pub layout_new : (l : List PlanNode) (x : PlanNode) → layout_at texts (l ++ (x ∷ [])) (length l) ≡ layout_of texts (layouts texts l) x
   layout_new l x =
       ap (λ z. get_or z (length l) blank) (layouts_new l x)
       ∙ subst (λ z. get_or (layouts texts l ++ (layout_of texts (layouts texts l) x ∷ [])) z blank ≡ layout_of texts (layouts texts l) x)
@@ -107,38 +107,38 @@ module _ (texts : ℕ → Word) where
   layout_same ps qs t n (Penalty a c) h k = ap (fee a) (k c.0 h)
 
   after_is : (ps : List Plan) (l : List PlanNode) (t j : ℕ) → j < length l → Fine t (length ps + j) (get_or l j Empty)
-      → get_or (layoutsAfter texts ps l) (length ps + j) blank ≡ layout_of texts (layoutsAfter texts ps l) (get_or l j Empty)
-  unfolding layoutsAfter
+      → get_or (read_layouts_after texts ps l) (length ps + j) blank ≡ layout_of texts (read_layouts_after texts ps l) (get_or l j Empty)
+  unfolding read_layouts_after
   after_is ps [] t j h w = absurd (omega arith)
   after_is ps (x ∷ l) t zero h w =
       let y = layout_of texts ps x in
       let qs = ps ++ (y ∷ []) in
       after_old qs l (length ps + 0) (omega (arith, length-append ps (y ∷ [])))
-      ∙ subst (λ z. get_or qs z blank ≡ y) (sym (add_zero (length ps))) (get_last blank ps y)
-      ∙ layout_same ps (layoutsAfter texts qs l) t (length ps + 0) x w (λ j m. sym
+      ∙ subst (λ z. get_or qs z blank ≡ y) (sym (add-zero (length ps))) (get_last blank ps y)
+      ∙ layout_same ps (read_layouts_after texts qs l) t (length ps + 0) x w (λ j m. sym
       (after_old qs l j (omega (arith, length-append ps (y ∷ []))) ∙ get_before blank ps (y ∷ []) j (omega arith)))
   after_is ps (x ∷ l) t (suc j) h w =
       let y = layout_of texts ps x in
       let qs = ps ++ (y ∷ []) in
       let e : length qs + j ≡ length ps + suc j = omega (arith, length-append ps (y ∷ [])) in
-      subst (λ z. get_or (layoutsAfter texts qs l) z blank ≡ layout_of texts (layoutsAfter texts qs l) (get_or l j Empty)) e
+      subst (λ z. get_or (read_layouts_after texts qs l) z blank ≡ layout_of texts (read_layouts_after texts qs l) (get_or l j Empty)) e
       (after_is qs l t j (omega arith) (subst (λ z. Fine t z (get_or l j Empty)) (sym e) w))
 
   -- a number unfolds to its record's layout, made of the layouts that the record names
-  pub layout_is : (t : ℕ) (l : List PlanNode) → Ranked t l → (i : ℕ) → i < length l → layoutAt texts l i ≡ layout_of texts (layouts texts l) (get_or l i Empty)
+  pub layout_is : (t : ℕ) (l : List PlanNode) → Ranked t l → (i : ℕ) → i < length l → layout_at texts l i ≡ layout_of texts (layouts texts l) (get_or l i Empty)
   unfolding layouts
   layout_is t l r i h =
       let e : 0 + i ≡ i = omega arith in
-      subst (λ z. get_or (layoutsAfter texts [] l) z blank ≡ layout_of texts (layoutsAfter texts [] l) (get_or l i Empty)) e
+      subst (λ z. get_or (read_layouts_after texts [] l) z blank ≡ layout_of texts (read_layouts_after texts [] l) (get_or l i Empty)) e
       (after_is [] l t i h (subst (λ z. Fine t z (get_or l i Empty)) (sym e) (r.fine i h)))
 
   -- committed, a pending plan has the layout that it had
-  pub layout_commit : (l : List PlanNode) (p : Pending) → layoutAt texts (l ++ additions p) (numbered (length l) p).0 ≡ pendingLayout texts l p
-  layout_commit l (old p) = ap (λ z. layoutAt texts z p.0) (append_nil l)
+  pub layout_commit : (l : List PlanNode) (p : Pending) → layout_at texts (l ++ additions p) (numbered (length l) p).0 ≡ pending_layout texts l p
+  layout_commit l (old p) = ap (λ z. layout_at texts z p.0) (append-nil l)
   layout_commit l (new x) = layout_new l x
 
   -- a pending plan keeps its layout while others are committed
-  pub pending_grow : (t : ℕ) (l m : List PlanNode) (p : Pending) → PendingFine t (length l) p → pendingLayout texts (l ++ m) p ≡ pendingLayout texts l p
+  pub pending_grow : (t : ℕ) (l m : List PlanNode) (p : Pending) → PendingFine t (length l) p → pending_layout texts (l ++ m) p ≡ pending_layout texts l p
   pending_grow t l m (old p) h = layout_grow l m p.0 h
   pending_grow t l m (new x) h = layout_same (layouts texts (l ++ m)) (layouts texts l) t (length l) x h (layout_grow l m)
 
@@ -171,17 +171,17 @@ ranked_one t l x r w = record {
 }
 
 pub ranked_commit : (t : ℕ) (l : List PlanNode) (p : Pending) → Ranked t l → PendingFine t (length l) p → Ranked t (l ++ additions p)
-ranked_commit t l (old p) r w = subst (λ z. Ranked t z) (sym (append_nil l)) r
+ranked_commit t l (old p) r w = subst (λ z. Ranked t z) (sym (append-nil l)) r
 ranked_commit t l (new x) r w = ranked_one t l x r w
 
 -- ---- the same of the rows, by what `plan_node` and `commit_plan` promise
 
 module _ (t : ℕ) (rows : List (List ℕ)) (n : ℕ) (ok : Ranked t (arena rows n)) where
   -- a plan below the count: its record names texts that are there and lower plans, and its layout is made of theirs
-  pub node_fine : (i : ℕ) → i < n → Fine t i (nodeAt rows i)
+  pub node_fine : (i : ℕ) → i < n → Fine t i (node_at rows i)
   node_fine i h = subst (λ x. Fine t i x) (arena_node rows n i h) (ok.fine i (rw (arena_length rows n) h))
 
-  pub node_layout : (texts : ℕ → Word) (i : ℕ) → i < n → layoutAt texts (arena rows n) i ≡ layout_of texts (layouts texts (arena rows n)) (nodeAt rows i)
+  pub node_layout : (texts : ℕ → Word) (i : ℕ) → i < n → layout_at texts (arena rows n) i ≡ layout_of texts (layouts texts (arena rows n)) (node_at rows i)
   node_layout texts i h =
       layout_is texts t (arena rows n) ok i (rw (arena_length rows n) h)
       ∙ ap (λ x. layout_of texts (layouts texts (arena rows n)) x) (arena_node rows n i h)
@@ -196,19 +196,19 @@ module _ (t : ℕ) (rows : List (List ℕ)) (n : ℕ) (ok : Ranked t (arena rows
     pub commit_low : r.plan.0 < r.count
     commit_low = rw (done.plan, done.count) (number_low t n p fine)
 
-    pub commit_layout : (texts : ℕ → Word) → layoutAt texts (arena rows' r.count) r.plan.0 ≡ pendingLayout texts (arena rows n) p
+    pub commit_layout : (texts : ℕ → Word) → layout_at texts (arena rows' r.count) r.plan.0 ≡ pending_layout texts (arena rows n) p
     commit_layout texts =
-        ap (λ l. layoutAt texts l r.plan.0) done.grown
-        ∙ ap (λ (z : PlanId). layoutAt texts (arena rows n ++ additions p) z.0) (done.plan ∙ ap (λ z. numbered z p) (sym (arena_length rows n)))
+        ap (λ l. layout_at texts l r.plan.0) done.grown
+        ∙ ap (λ (z : PlanId). layout_at texts (arena rows n ++ additions p) z.0) (done.plan ∙ ap (λ z. numbered z p) (sym (arena_length rows n)))
         ∙ layout_commit texts (arena rows n) p
 
-    pub commit_old : (texts : ℕ → Word) (i : ℕ) → i < n → layoutAt texts (arena rows' r.count) i ≡ layoutAt texts (arena rows n) i
+    pub commit_old : (texts : ℕ → Word) (i : ℕ) → i < n → layout_at texts (arena rows' r.count) i ≡ layout_at texts (arena rows n) i
     commit_old texts i h =
-        ap (λ l. layoutAt texts l i) done.grown ∙ layout_grow texts (arena rows n) (additions p) i (rw (arena_length rows n) h)
+        ap (λ l. layout_at texts l i) done.grown ∙ layout_grow texts (arena rows n) (additions p) i (rw (arena_length rows n) h)
 
 -- ---- the words of a pending plan give it back
 
-pub pending_back : (p : PendingPlan) → pendingOf (recordOf p).kind (recordOf p).first (recordOf p).second ≡ p
+pub pending_back : (p : PendingPlan) → pending_of (record_of p).kind (record_of p).first (record_of p).second ≡ p
 pending_back (Existing p) = refl
 pending_back NewEmpty = refl
 pending_back (NewText t) = refl

@@ -1,15 +1,17 @@
 // Plans: layouts as records in an arena of lent rows. A record names earlier ones by their numbers, so that candidates share what they have in common.
 // A row holds first, second and kind, as the reference's PlanRecord.
+#![tactic(auto)]
+
 ghost use Rattle.std.specs.Prelude.{◌≡◌, ◌+◌, ◌≤◌, ◌<◌, ◌^◌, length};
-ghost use Rattle.plan.specs.Records.{recordOf, pendingOf, nodeAt};
+ghost use Rattle.plan.specs.Records.{record_of, pending_of, node_at};
 ghost use Rattle.plan.specs.Arena.{view, additions, room_for, Committing};
 
 use file_tables::{AnnotationId, TextId};
 
-#[derive(Drop)]
+#[derive(Clone, Copy)]
 pub struct PlanId(pub u32);
 
-#[derive(Drop)]
+#[derive(Clone, Copy)]
 pub enum PlanNode {
     Empty,
     Text(TextId),
@@ -31,7 +33,7 @@ pub enum PlanNode {
 }
 
 // The plan of a candidate that is not kept yet: one of the arena, or a record that would be new there.
-#[derive(Drop)]
+#[derive(Clone, Copy)]
 pub enum PendingPlan {
     Existing(PlanId),
     Empty,
@@ -54,7 +56,7 @@ pub enum PendingPlan {
 }
 
 // Kinds: 0 Empty, 1 Text, 2 Newline, 3 Concat, 4 Annotate, 5 Penalty; in a pending plan alone 6, Existing.
-#[derive(Drop)]
+#[derive(Clone, Copy)]
 pub struct PlanRecord {
     pub first: u32,
     pub second: u32,
@@ -62,21 +64,21 @@ pub struct PlanRecord {
 }
 
 // Whether the arena has room for the records that are asked for at once.
-#[derive(Drop)]
+#[derive(Clone, Copy)]
 pub enum PlanRoom {
     Enough,
     Full { needed: u64 },
 }
 
 // The number of a committed plan, and the number of records then.
-#[derive(Drop)]
+#[derive(Clone, Copy)]
 pub struct Committed {
     pub plan: PlanId,
     pub count: usize,
 }
 
 pub fn pending_record(pending: PendingPlan) -> PlanRecord
-    ensures { result ≡ recordOf pending }
+    ensures { result ≡ record_of pending }
 {
     match pending {
         PendingPlan::Existing(plan) => PlanRecord {
@@ -119,7 +121,7 @@ pub fn pending_record(pending: PendingPlan) -> PlanRecord
 
 // The pending plan whose words these are.
 pub fn pending_plan(words: PlanRecord) -> PendingPlan
-    ensures { result ≡ pendingOf words.kind words.first words.second }
+    ensures { result ≡ pending_of words.kind words.first words.second }
 {
     let first = words.first;
     let second = words.second;
@@ -147,7 +149,7 @@ pub fn pending_plan(words: PlanRecord) -> PendingPlan
 // The record of a plan.
 pub fn plan_node(plans: &[[u32; 3]], id: PlanId) -> PlanNode
     requires { id.0 < length plans.now }
-    ensures { result ≡ nodeAt plans.now id.0 }
+    ensures { result ≡ node_at plans.now id.0 }
 {
     let i = id.0 as usize;
     let row = plans[i];

@@ -7,7 +7,7 @@ use lib.ListN.{length, take}
 use Rattle.file_tables.specs.Tables.{Tables}
 use Rattle.file_form.specs.declared.fill.Counts.{Counts}
 use Rattle.file_form.specs.declared.fill.Filled.{Filled}
-use Rattle.file_form.specs.Form.{formFault, tables_of, countsOf, tables_held, Holds, Filling}
+use Rattle.file_form.specs.Form.{form_fault, tables_of, counts_of, tables_held, Filling}
 use Rattle.file_encode.specs.Encode.{Sized}
 use Rattle.file_encode.specs.Fields.{Bytes}
 use Rattle.file_encode.specs.TextTrip.{texts_total}
@@ -28,7 +28,7 @@ pub record Bounds (n : Counts) : Type 0 where
 formed_of : (t : Tables) → Sized t → Right t → Formed t
 formed_of t z r = record { nodes = r.within.nodes_high; texts = record { inside = texts_inside t z.bytes r.texts } }
 
-bounds_of : (s : List ℕ) → Encoded s → Bounds (countsOf s)
+bounds_of : (s : List ℕ) → Encoded s → Bounds (counts_of s)
 bounds_of s e =
     let r = tables_right (tables_of s) e.right in
     let c = e.counted in
@@ -44,7 +44,7 @@ module _ (s : List ℕ) (f : Filled) (ns : List (List ℕ)) (es xs : List ℕ) (
   same : tables_held f.counts ns es xs ts bs ≡ tables_of s
   same = rw g.counts (held_is s ns es xs ts bs g.held)
 
-  pub well : f.fault ≡ 0 → formFault s ≡ 0
+  pub well : f.fault ≡ 0 → form_fault s ≡ 0
   well e = sym g.fault ∙ e
 
   pub bounds : Bytes s → f.fault ≡ 0 → Bounds f.counts
@@ -57,7 +57,7 @@ module _ (s : List ℕ) (f : Filled) (ns : List (List ℕ)) (es xs : List ℕ) (
   few z e = let k = encoded s z (well e) in rw (g.counts, g.held.choice_list) (tables_right (tables_of s) k.right).within.choices_high
 
   pub answer_ill : {lent : Type 0} → lent → (f.fault ≡ 0 → ⊥) → Reads s lent ns es xs ts bs (Refused f.fault)
-  answer_ill l n = rw g.fault (refused (formFault s) l (ill (λ e. n (g.fault ∙ e))))
+  answer_ill l n = rw g.fault (refused (form_fault s) l (ill (λ e. n (g.fault ∙ e))))
 
   pub answer_wrong : {lent : Type 0} → lent → f.fault ≡ 0 → (w : ℕ) → (w ≡ 0 → ⊥) → Judged (tables_held f.counts ns es xs ts bs) w → Reads s lent ns es xs ts bs (Refused w)
   answer_wrong l e w n j = refused w l (wrong w (well e) n (rw same at j))

@@ -7,7 +7,7 @@ use lib.ListN.{length, take, drop}
 use lib.Seq.{sets-eq, length-take-le}
 use Rattle.file_tables.specs.Tables.{Tables, tables}
 use Rattle.file_encode.specs.Encode.{encode, lengths, Sized}
-use Rattle.file_encode.specs.Faults.{or_else, headerFault, nodesFault, textsFault, tablesFault}
+use Rattle.file_encode.specs.Faults.{or_else, header_fault, nodes_fault, texts_fault, tables_fault}
 use Rattle.file_encode.specs.NodeTrip.{or_zero}
 use Rattle.file_encode.specs.Trips.{tables_right, texts_inside}
 use Rattle.file_put.specs.Put.{Put}
@@ -18,9 +18,9 @@ use Rattle.prepare.specs.Writing.{Writes, order, ill, wrong, room, written}
 
 pub fault_is : (nodes : List (List ℕ)) (edges choices : List ℕ) (texts : List (List ℕ)) (bytes : List ℕ) (n e x a c root space h m t q r : ℕ)
     → length nodes ≡ n → length edges ≡ e → length choices ≡ c → length texts ≡ x
-    → h ≡ headerFault n e x a c → m ≡ nodesFault nodes → t ≡ textsFault 0 texts → q ≡ or_else m t → r ≡ or_else h q
-    → r ≡ tablesFault (tables nodes edges choices texts bytes a root space)
-unfolding tablesFault
+    → h ≡ header_fault n e x a c → m ≡ nodes_fault nodes → t ≡ texts_fault 0 texts → q ≡ or_else m t → r ≡ or_else h q
+    → r ≡ tables_fault (tables nodes edges choices texts bytes a root space)
+unfolding tables_fault
 fault_is nodes edges choices texts bytes n e x a c root space h m t q r ln le lc lx eh em et eq er =
     rw (er, eq, em, et, eh, ln, le, lc, lx)
 
@@ -29,24 +29,24 @@ pub faults_none : (h m t q r : ℕ) → q ≡ or_else m t → r ≡ or_else h q 
 faults_none h m t q r eq er z = or_zero m t (sym eq ∙ (or_zero h q (sym er ∙ z)).1)
 
 -- right tables are fit for the rules
-pub formed_by : (t : Tables) → length t.bytes ≡ lengths t.texts → tablesFault t ≡ 0 → Formed t
+pub formed_by : (t : Tables) → length t.bytes ≡ lengths t.texts → tables_fault t ≡ 0 → Formed t
 formed_by t l e =
     let r = tables_right t e in
     record { nodes = r.within.nodes_high; texts = record { inside = texts_inside t l r.texts } }
 
-pub choices_few : (t : Tables) → tablesFault t ≡ 0 → length t.choices ≤ 16384
+pub choices_few : (t : Tables) → tables_fault t ≡ 0 → length t.choices ≤ 16384
 choices_few t e = (tables_right t e).within.choices_high
 
 module _ (t : Tables) (lent : Type 0) (l : lent) where
-  pub answer_ill : (o : List ℕ) (f : ℕ) → f ≡ tablesFault t → (f ≡ 0 → ⊥) → Writes t lent o o (Refused f 0)
+  pub answer_ill : (o : List ℕ) (f : ℕ) → f ≡ tables_fault t → (f ≡ 0 → ⊥) → Writes t lent o o (Refused f 0)
   answer_ill o f e n = rw e (ill l (λ z. n (e ∙ z)) refl)
 
-  pub answer_room : (o b b' : List ℕ) (size : ℕ) → tablesFault t ≡ 0 → Judged t 0 → Put b b' 0 size (encode t) → length o < size → Writes t lent o o (Refused 20 size)
+  pub answer_room : (o b b' : List ℕ) (size : ℕ) → tables_fault t ≡ 0 → Judged t 0 → Put b b' 0 size (encode t) → length o < size → Writes t lent o o (Refused 20 size)
   answer_room o b b' size e j p h =
       let g : size ≡ length (encode t) = p.next ∙ omega arith in
       rw g (room l e j (omega arith) refl)
 
-  pub answer_written : (o o' b b' : List ℕ) (size done : ℕ) → Sized t → tablesFault t ≡ 0 → Judged t 0 → Put b b' 0 size (encode t) → size ≤ length o → Put o o' 0 done (encode t)
+  pub answer_written : (o o' b b' : List ℕ) (size done : ℕ) → Sized t → tables_fault t ≡ 0 → Judged t 0 → Put b b' 0 size (encode t) → size ≤ length o → Put o o' 0 done (encode t)
       → Writes t lent o o' (Written done)
   answer_written o o' b b' size done s e j p h q =
       let g : size ≡ length (encode t) = p.next ∙ omega arith in

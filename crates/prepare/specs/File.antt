@@ -1,15 +1,15 @@
 -- What a byte string is, and what `read` promises (document 01, "Prepared file", "Calls").
 use Rattle.std.specs.Prelude.{ℕ, ◌≤◌, ◌≡◌, List}
-use Rattle.file_form.specs.Form.{formFault, tables_of, countsOf, Holds}
+use Rattle.file_form.specs.Form.{form_fault, tables_of, counts_of, Holds}
 use Rattle.file_checks.specs.Judged.{Judged}
 use Rattle.prepare.specs.declared.read.Answer.{Answer}
 use Rattle.prepare.specs.declared.read.Answer.TheVariants.{Accepted, Refused}
 
 -- a byte string is ill-formed (2 to 5, the first in order), or its tables are refused by the first of 6 to 10, or it is accepted
 pub data Means (s : List ℕ) : Answer → Type 0 where
-  ill : (formFault s ≡ 0 → ⊥) → Means s (Refused (formFault s))
-  wrong : (n : ℕ) → formFault s ≡ 0 → (n ≡ 0 → ⊥) → Judged (tables_of s) n → Means s (Refused n)
-  right : formFault s ≡ 0 → Judged (tables_of s) 0 → Means s (Accepted (countsOf s))
+  ill : (form_fault s ≡ 0 → ⊥) → Means s (Refused (form_fault s))
+  wrong : (n : ℕ) → form_fault s ≡ 0 → (n ≡ 0 → ⊥) → Judged (tables_of s) n → Means s (Refused n)
+  right : form_fault s ≡ 0 → Judged (tables_of s) 0 → Means s (Accepted (counts_of s))
 
 -- each table is lent at its limit
 pub record TablesLent (nodes edges choices texts bytes : ℕ) : Type 0 where
@@ -26,6 +26,6 @@ pub data Reads (s : List ℕ) (lent : Type 0) (nodes : List (List ℕ)) (edges c
   refused : (n : ℕ) → lent → Means s (Refused n) → Reads s lent nodes edges choices texts bytes (Refused n)
   accepted :
       lent
-      → Means s (Accepted (countsOf s))
-      → Holds (tables_of s) (countsOf s) nodes edges choices texts bytes
-      → Reads s lent nodes edges choices texts bytes (Accepted (countsOf s))
+      → Means s (Accepted (counts_of s))
+      → Holds (tables_of s) (counts_of s) nodes edges choices texts bytes
+      → Reads s lent nodes edges choices texts bytes (Accepted (counts_of s))

@@ -5,13 +5,13 @@ use Rattle.std.specs.Prelude.{◌≡◌, refl, List, ◌++◌, ℕ, ◌≤◌, m
 use Rattle.std.proofs.Common.{sym, ap, ◌∙◌, subst, arith, length-take, take_at, length-take-le}
 use Rattle.file_tables.specs.Tables.{Tables}
 use Rattle.file_form.specs.declared.fill.Counts.{Counts}
-use Rattle.file_form.specs.Form.{formFault, tables_of, countsOf, tables_held, Holds}
+use Rattle.file_form.specs.Form.{form_fault, tables_of, counts_of, tables_held, Holds}
 use Rattle.file_encode.specs.Encode.{encode, lengths}
-use Rattle.file_encode.specs.Faults.{tablesFault}
+use Rattle.file_encode.specs.Faults.{tables_fault}
 use Rattle.file_encode.specs.Fields.{Bytes}
 use Rattle.file_encode.specs.Sayable.{Sayable}
 use Rattle.file_encode.specs.Trips.{Counted, Encoded, encoded, reads_back}
-use Rattle.file_encode.specs.AsRead.{alike}
+use Rattle.file_encode.proofs.AsRead.{alike}
 use Rattle.file_checks.proofs.Exactly.{judged_one}
 use Rattle.file_checks.specs.Judged.{Judged, Accepted as Kept, reference, text, space, circle, list, accepted}
 use Rattle.prepare.specs.declared.read.Answer.{Answer}
@@ -20,7 +20,7 @@ use Rattle.prepare.specs.declared.write.FileCounts.{FileCounts}
 use Rattle.prepare.specs.declared.write.Outcome.{Outcome}
 use Rattle.prepare.specs.declared.write.Outcome.TheVariants.{Written, Refused as Unwritten}
 use Rattle.prepare.specs.File.{Means, ill, wrong, right, Reads, order as unlent, refused as not_read, accepted as was_read}
-use Rattle.prepare.specs.Writing.{Writes, order, ill as not_formed, wrong as not_kept, room, written, fileCounts, lentTables, LentAt}
+use Rattle.prepare.specs.Writing.{Writes, order, ill as not_formed, wrong as not_kept, room, written, file_counts, lent_tables, LentAt}
 
 -- ---- one answer
 
@@ -37,7 +37,7 @@ means_one (right e j) (wrong k f z i) = absurd (z (judged_one i j))
 means_one (right e j) (right f i) = refl
 
 -- an accepted file is well formed: no refusal of 2 to 5, and all that 6 to 10 ask
-pub accepted_well : {s : List ℕ} {n : Counts} → Means s (Accepted n) → (formFault s ≡ 0) × Kept (tables_of s)
+pub accepted_well : {s : List ℕ} {n : Counts} → Means s (Accepted n) → (form_fault s ≡ 0) × Kept (tables_of s)
 accepted_well (right e j) = (e, kept j refl)
   where
     kept : {t : Tables} {k : ℕ} → Judged t k → k ≡ 0 → Kept t
@@ -63,8 +63,8 @@ pub record WrittenFile (t : Tables) (k : ℕ) (s : List ℕ) : Type 0 where
   pub long : k ≡ length (encode t)
   pub file : s ≡ encode t
   pub tables : tables_of s ≡ t
-  pub counts : Counted t (countsOf s)
-  pub means : Means s (Accepted (countsOf s))
+  pub counts : Counted t (counts_of s)
+  pub means : Means s (Accepted (counts_of s))
 
 pub written_means : {t : Tables} {lent : Type 0} {out out' : List ℕ} {k : ℕ} → Writes t lent out out' (Written k) → WrittenFile t k (take k out')
 written_means {t} {out = out} {out' = out'} (written l z e j h b) =
@@ -74,9 +74,9 @@ written_means {t} {out = out} {out' = out'} (written l z e j h b) =
     (record { long = refl; file = refl; tables = r.tables; counts = r.counts; means = right r.fine (rw r.tables j) })
 
 -- the tables that lent memory holds up to the counts of a file are the file's
-pub held_is : (s : List ℕ) (ns : List (List ℕ)) (es xs : List ℕ) (ts : List (List ℕ)) (bs : List ℕ) → Holds (tables_of s) (countsOf s) ns es xs ts bs
-    → tables_held (countsOf s) ns es xs ts bs ≡ tables_of s
-unfolding tables_of countsOf
+pub held_is : (s : List ℕ) (ns : List (List ℕ)) (es xs : List ℕ) (ts : List (List ℕ)) (bs : List ℕ) → Holds (tables_of s) (counts_of s) ns es xs ts bs
+    → tables_held (counts_of s) ns es xs ts bs ≡ tables_of s
+unfolding tables_of counts_of
 held_is s ns es xs ts bs h = rw (h.node_rows, h.edge_list, h.choice_list, h.text_rows, h.byte_list)
 
 same_counts : (m n : FileCounts) → m.nodes ≡ n.nodes → m.edges ≡ n.edges → m.choices ≡ n.choices → m.texts ≡ n.texts
@@ -91,9 +91,9 @@ same_counts m n a b c d e f g =
     fields a a' b b' c c' d d' e e' f f' g g' p q r s t u v = rw (p, q, r, s, t, u, v)
 
 counts_same : (n : FileCounts) (c : Counts) (ns : List (List ℕ)) (es xs : List ℕ) (ts : List (List ℕ)) (bs : List ℕ) → LentAt n ns es xs ts bs
-    → Counted (lentTables n ns es xs ts bs) c → fileCounts c ≡ n
+    → Counted (lent_tables n ns es xs ts bs) c → file_counts c ≡ n
 counts_same n c ns es xs ts bs l k =
-    same_counts (fileCounts c) n
+    same_counts (file_counts c) n
     (sym k.nodes ∙ length-take-le n.nodes ns l.nodes_lent)
     (sym k.edges ∙ length-take-le n.edges es l.edges_lent)
     (sym k.choices ∙ length-take-le n.choices xs l.choices_lent)
@@ -106,7 +106,7 @@ counts_same n c ns es xs ts bs l k =
 pub record ReadAs (n : FileCounts) (t : Tables) (ns : List (List ℕ)) (es xs : List ℕ) (ts : List (List ℕ)) (bs : List ℕ) (r : Answer) : Type 0 where
   pub told : Counts
   pub is_accepted : r ≡ Accepted told
-  pub counts : fileCounts told ≡ n
+  pub counts : file_counts told ≡ n
   pub text_bytes : told.bytes ≡ length t.bytes
   pub tables : tables_held told ns es xs ts bs ≡ t
 
@@ -116,49 +116,49 @@ written_lent (written a z e j h b) = a
 -- what was written and is read again has the same counts and tables
 pub read_again : {n : FileCounts} {ns : List (List ℕ)} {es xs : List ℕ} {ts : List (List ℕ)} {bs out out' : List ℕ} {k : ℕ}
     {lent : Type 0} {ns' : List (List ℕ)} {es' xs' : List ℕ} {ts' : List (List ℕ)} {bs' : List ℕ} {r : Answer}
-    → Writes (lentTables n ns es xs ts bs) (LentAt n ns es xs ts bs) out out' (Written k) → lent → Reads (take k out') lent ns' es' xs' ts' bs' r
-    → ReadAs n (lentTables n ns es xs ts bs) ns' es' xs' ts' bs' r
+    → Writes (lent_tables n ns es xs ts bs) (LentAt n ns es xs ts bs) out out' (Written k) → lent → Reads (take k out') lent ns' es' xs' ts' bs' r
+    → ReadAs n (lent_tables n ns es xs ts bs) ns' es' xs' ts' bs' r
 read_again {n} {ns} {es} {xs} {ts} {bs} {out} {out'} {k} {lent} {ns'} {es'} {xs'} {ts'} {bs'} w l r = go (written_lent w) (written_means w) r
   where
-    go : {s : List ℕ} {r : Answer} → LentAt n ns es xs ts bs → WrittenFile (lentTables n ns es xs ts bs) k s → Reads s lent ns' es' xs' ts' bs' r
-        → ReadAs n (lentTables n ns es xs ts bs) ns' es' xs' ts' bs' r
+    go : {s : List ℕ} {r : Answer} → LentAt n ns es xs ts bs → WrittenFile (lent_tables n ns es xs ts bs) k s → Reads s lent ns' es' xs' ts' bs' r
+        → ReadAs n (lent_tables n ns es xs ts bs) ns' es' xs' ts' bs' r
     go a w (unlent f) = absurd (f l)
     go a w (not_read m f means) = let e = means_one means w.means in let z : ◌≡◌ {A = ℕ} 0 1 = cc in absurd (omega arith)
     go {s} a w (was_read f means h) =
         record {
-          told = countsOf s;
+          told = counts_of s;
           is_accepted = refl;
-          counts = counts_same n (countsOf s) ns es xs ts bs a w.counts;
+          counts = counts_same n (counts_of s) ns es xs ts bs a w.counts;
           text_bytes = sym w.counts.bytes;
           tables = held_is s ns' es' xs' ts' bs' h ∙ w.tables;
         }
 
 -- lent memory that holds the tables of an accepted file is lent at its counts, and those are the tables
-lent_is : (s : List ℕ) (ns : List (List ℕ)) (es xs : List ℕ) (ts : List (List ℕ)) (bs : List ℕ) → Encoded s → Holds (tables_of s) (countsOf s) ns es xs ts bs
-    → lentTables (fileCounts (countsOf s)) ns es xs ts bs ≡ tables_of s
-unfolding tables_of countsOf
+lent_is : (s : List ℕ) (ns : List (List ℕ)) (es xs : List ℕ) (ts : List (List ℕ)) (bs : List ℕ) → Encoded s → Holds (tables_of s) (counts_of s) ns es xs ts bs
+    → lent_tables (file_counts (counts_of s)) ns es xs ts bs ≡ tables_of s
+unfolding tables_of counts_of
 lent_is s ns es xs ts bs e h =
-    let q : lengths (take (countsOf s).texts ts) ≡ (countsOf s).bytes = ap lengths h.text_rows ∙ sym e.sized.bytes ∙ e.counted.bytes in
+    let q : lengths (take (counts_of s).texts ts) ≡ (counts_of s).bytes = ap lengths h.text_rows ∙ sym e.sized.bytes ∙ e.counted.bytes in
     rw (q, h.node_rows, h.edge_list, h.choice_list, h.text_rows, h.byte_list)
 
 taken : {A : Type 0} (n : ℕ) (xs ys : List A) → take n xs ≡ ys → length ys ≡ n → n ≤ length xs
 taken n xs ys e l = let k : min n (length xs) ≡ n = sym (length-take n xs) ∙ ap length e ∙ l in omega arith
 
-pub lent_at : (s : List ℕ) (ns : List (List ℕ)) (es xs : List ℕ) (ts : List (List ℕ)) (bs : List ℕ) → Encoded s → Holds (tables_of s) (countsOf s) ns es xs ts bs
-    → LentAt (fileCounts (countsOf s)) ns es xs ts bs
+pub lent_at : (s : List ℕ) (ns : List (List ℕ)) (es xs : List ℕ) (ts : List (List ℕ)) (bs : List ℕ) → Encoded s → Holds (tables_of s) (counts_of s) ns es xs ts bs
+    → LentAt (file_counts (counts_of s)) ns es xs ts bs
 lent_at s ns es xs ts bs e h =
     let c = e.counted in
-    let q : lengths (take (countsOf s).texts ts) ≡ (countsOf s).bytes = ap lengths h.text_rows ∙ sym e.sized.bytes ∙ c.bytes in
+    let q : lengths (take (counts_of s).texts ts) ≡ (counts_of s).bytes = ap lengths h.text_rows ∙ sym e.sized.bytes ∙ c.bytes in
     record {
-      nodes_lent = taken (countsOf s).nodes ns (tables_of s).nodes h.node_rows c.nodes;
-      edges_lent = taken (countsOf s).edges es (tables_of s).edges h.edge_list c.edges;
-      choices_lent = taken (countsOf s).choices xs (tables_of s).choices h.choice_list c.choices;
-      texts_lent = taken (countsOf s).texts ts (tables_of s).texts h.text_rows c.texts;
-      bytes_lent = rw q (taken (countsOf s).bytes bs (tables_of s).bytes h.byte_list c.bytes);
+      nodes_lent = taken (counts_of s).nodes ns (tables_of s).nodes h.node_rows c.nodes;
+      edges_lent = taken (counts_of s).edges es (tables_of s).edges h.edge_list c.edges;
+      choices_lent = taken (counts_of s).choices xs (tables_of s).choices h.choice_list c.choices;
+      texts_lent = taken (counts_of s).texts ts (tables_of s).texts h.text_rows c.texts;
+      bytes_lent = rw q (taken (counts_of s).bytes bs (tables_of s).bytes h.byte_list c.bytes);
     }
 
 -- the outcome for the tables of an accepted file: the same bytes, or 20 with their number
-again : {lent : Type 0} {out out' : List ℕ} {r : Outcome} (s : List ℕ) (t : Tables) → lent → encode t ≡ s → tablesFault t ≡ 0 → Judged t 0 → length s ≤ length out → Writes t lent out out' r
+again : {lent : Type 0} {out out' : List ℕ} (s : List ℕ) (t : Tables) {r : Outcome} → lent → encode t ≡ s → tables_fault t ≡ 0 → Judged t 0 → length s ≤ length out → Writes t lent out out' r
     → (r ≡ Written (length s)) × (out' ≡ s ++ drop (length s) out)
 again s t l f e j h (order n g) = absurd (n l)
 again s t l f e j h (not_formed m n g) = absurd (n e)
@@ -168,13 +168,13 @@ again s t l f e j h (written m y z i k g) = rw (← f) (refl, g)
 
 -- writing what was read gives the same bytes
 pub written_again : {n : Counts} {out out' : List ℕ} {r : Outcome} (s : List ℕ) (ns : List (List ℕ)) (es xs : List ℕ) (ts : List (List ℕ)) (bs : List ℕ)
-    → Bytes s → Means s (Accepted n) → Holds (tables_of s) (countsOf s) ns es xs ts bs → length s ≤ length out
-    → Writes (lentTables (fileCounts (countsOf s)) ns es xs ts bs) (LentAt (fileCounts (countsOf s)) ns es xs ts bs) out out' r
+    → Bytes s → Means s (Accepted n) → Holds (tables_of s) (counts_of s) ns es xs ts bs → length s ≤ length out
+    → Writes (lent_tables (file_counts (counts_of s)) ns es xs ts bs) (LentAt (file_counts (counts_of s)) ns es xs ts bs) out out' r
     → (r ≡ Written (length s)) × (out' ≡ s ++ drop (length s) out)
 written_again {out = out} {out' = out'} {r = r} s ns es xs ts bs z m h k w =
     let a = accepted_well m in
     let e = encoded s z a.0 in
-    let w' : Writes (tables_of s) (LentAt (fileCounts (countsOf s)) ns es xs ts bs) out out' r = rw (lent_is s ns es xs ts bs e h) at w in
+    let w' : Writes (tables_of s) (LentAt (file_counts (counts_of s)) ns es xs ts bs) out out' r = rw (lent_is s ns es xs ts bs e h) at w in
     again s (tables_of s) (lent_at s ns es xs ts bs e h) e.file e.right (accepted a.1) k w'
 
 -- ---- the writer's refusals
@@ -182,15 +182,15 @@ written_again {out = out} {out' = out'} {r = r} s ns es xs ts bs z m h k w =
 -- what the writer answers to tables, by what the reader says of their file s: the same refusal, or 20 where there is no room, or all is written
 pub data AsRead (s : List ℕ) : Outcome → Type 0 where
   refused_too : (n : ℕ) → Means s (Refused n) → AsRead s (Unwritten n 0)
-  no_room : Means s (Accepted (countsOf s)) → AsRead s (Unwritten 20 (length s))
-  all_written : Means s (Accepted (countsOf s)) → AsRead s (Written (length s))
+  no_room : Means s (Accepted (counts_of s)) → AsRead s (Unwritten 20 (length s))
+  all_written : Means s (Accepted (counts_of s)) → AsRead s (Written (length s))
 
 -- of tables that bytes can say. The rest (`Sayable`: a kind past a byte, a malformed flat mark, a text that starts elsewhere) is 3 at its place in the order of the file
 pub as_read : {t : Tables} {lent : Type 0} {out out' : List ℕ} {r : Outcome} → Sayable t → lent → Writes t lent out out' r → AsRead (encode t) r
 as_read y l (order n g) = absurd (n l)
 as_read {t} y l (not_formed m n g) =
     let e = alike t y in
-    subst (λ (k : ℕ). AsRead (encode t) (Unwritten k 0)) e (refused_too (formFault (encode t)) (ill (λ z. n (sym e ∙ z))))
+    subst (λ (k : ℕ). AsRead (encode t) (Unwritten k 0)) e (refused_too (form_fault (encode t)) (ill (λ z. n (sym e ∙ z))))
 as_read {t} y l (not_kept k m z n j g) = let b = reads_back t y.sized z in refused_too k (wrong k b.fine n (rw b.tables j))
 as_read {t} y l (room m z j h g) = let b = reads_back t y.sized z in no_room (right b.fine (rw b.tables j))
 as_read {t} y l (written m s z j h g) = let b = reads_back t y.sized z in all_written (right b.fine (rw b.tables j))

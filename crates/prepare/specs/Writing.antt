@@ -3,15 +3,15 @@ use Rattle.std.specs.Prelude.{ℕ, ◌≤◌, ◌<◌, ◌≡◌, List, ◌++◌
 use Rattle.file_tables.specs.Tables.{Tables, tables}
 use Rattle.file_form.specs.declared.fill.Counts.{Counts}
 use Rattle.file_encode.specs.Encode.{encode, lengths, Sized}
-use Rattle.file_encode.specs.Faults.{tablesFault}
+use Rattle.file_encode.specs.Faults.{tables_fault}
 use Rattle.file_checks.specs.Judged.{Judged}
 use Rattle.prepare.specs.declared.write.FileCounts.{FileCounts}
 use Rattle.prepare.specs.declared.write.Outcome.{Outcome}
 use Rattle.prepare.specs.declared.write.Outcome.TheVariants.{Written, Refused}
 
 -- the counts that a file has are those that were read, but for the number of its text bytes, which is the sum of the lengths
-abbrev pub fileCounts : Counts → FileCounts
-fileCounts n = record {
+abbrev pub file_counts : Counts → FileCounts
+file_counts n = record {
   nodes = n.nodes;
   edges = n.edges;
   choices = n.choices;
@@ -22,8 +22,8 @@ fileCounts n = record {
 }
 
 -- the tables that lent memory holds up to their counts, and as many bytes as the texts have together
-abbrev pub lentTables : FileCounts → List (List ℕ) → List ℕ → List ℕ → List (List ℕ) → List ℕ → Tables
-lentTables n nodes edges choices texts bytes =
+abbrev pub lent_tables : FileCounts → List (List ℕ) → List ℕ → List ℕ → List (List ℕ) → List ℕ → Tables
+lent_tables n nodes edges choices texts bytes =
     tables (take n.nodes nodes) (take n.edges edges) (take n.choices choices) (take n.texts texts) (take (lengths (take n.texts texts)) bytes)
     n.annotations n.root.0 n.space.0
 
@@ -48,11 +48,11 @@ pub record Cut (n : FileCounts) (nodes : List (List ℕ)) (edges choices : List 
 -- Otherwise t is as tables stand in memory, and the bytes begin with the file of t and are unaltered past it
 pub data Writes (t : Tables) (lent : Type 0) (out out' : List ℕ) : Outcome → Type 0 where
   order : (lent → ⊥) → out' ≡ out → Writes t lent out out' (Refused 1 0)
-  ill : lent → (tablesFault t ≡ 0 → ⊥) → out' ≡ out → Writes t lent out out' (Refused (tablesFault t) 0)
-  wrong : (k : ℕ) → lent → tablesFault t ≡ 0 → (k ≡ 0 → ⊥) → Judged t k → out' ≡ out → Writes t lent out out' (Refused k 0)
+  ill : lent → (tables_fault t ≡ 0 → ⊥) → out' ≡ out → Writes t lent out out' (Refused (tables_fault t) 0)
+  wrong : (k : ℕ) → lent → tables_fault t ≡ 0 → (k ≡ 0 → ⊥) → Judged t k → out' ≡ out → Writes t lent out out' (Refused k 0)
   room :
       lent
-      → tablesFault t ≡ 0
+      → tables_fault t ≡ 0
       → Judged t 0
       → length out < length (encode t)
       → out' ≡ out
@@ -60,7 +60,7 @@ pub data Writes (t : Tables) (lent : Type 0) (out out' : List ℕ) : Outcome →
   written :
       lent
       → Sized t
-      → tablesFault t ≡ 0
+      → tables_fault t ≡ 0
       → Judged t 0
       → length (encode t) ≤ length out
       → out' ≡ encode t ++ drop (length (encode t)) out

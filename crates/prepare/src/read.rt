@@ -9,7 +9,7 @@ use file_checks::judge;
 use file_form::fill::{Counts, fill};
 use file_tables::{NodeId, TextId};
 
-#[derive(Drop)]
+#[derive(Clone, Copy)]
 pub enum Answer {
     Accepted(Counts),
     Refused(u32),

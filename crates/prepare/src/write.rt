@@ -1,10 +1,10 @@
 // The writer: 1, then 3 and 4 in file order, then 6 to 10, then 20, and only then the bytes.
 ghost use Rattle.std.specs.Prelude.{◌≡◌, ℕ, ◌≤◌, ◌<◌, List, length, take};
 ghost use Rattle.file_encode.specs.Encode.{lengths, Wide, Sized};
-ghost use Rattle.file_encode.specs.Faults.{tablesFault};
+ghost use Rattle.file_encode.specs.Faults.{tables_fault};
 ghost use Rattle.file_tables.specs.Tables.{tables};
 ghost use Rattle.file_checks.specs.Judged.{Judged};
-ghost use Rattle.prepare.specs.Writing.{fileCounts, lentTables, LentAt, Cut, Writes};
+ghost use Rattle.prepare.specs.Writing.{file_counts, lent_tables, LentAt, Cut, Writes};
 
 use crate::read::judged;
 use file_encode::faults::{header_fault, nodes_fault, or_else, texts_fault};
@@ -13,7 +13,7 @@ use file_put::{put_tables, text_total};
 use file_tables::{NodeId, TextId};
 
 // The counts that a file has, and its root and space text. How many bytes the texts have together is not among them: the lengths say it.
-#[derive(Drop)]
+#[derive(Clone, Copy)]
 pub struct FileCounts {
     pub nodes: u32,
     pub edges: u32,
@@ -26,7 +26,7 @@ pub struct FileCounts {
 
 // Those of a file that was read.
 pub fn file_counts(n: Counts) -> FileCounts
-    ensures { result ≡ fileCounts n }
+    ensures { result ≡ file_counts n }
 {
     let root = n.root;
     let space = n.space;
@@ -41,7 +41,7 @@ pub fn file_counts(n: Counts) -> FileCounts
     }
 }
 
-#[derive(Drop)]
+#[derive(Clone, Copy)]
 pub enum Outcome {
     // How many bytes were written.
     Written(usize),
@@ -52,7 +52,7 @@ pub enum Outcome {
 // The first refusal of 3 and 4, or 0.
 fn tables_fault(n: FileCounts, nodes: &[[u32; 8]], texts: &[[u32; 3]]) -> u32
     requires { (length nodes.now ≡ n.nodes) × (length texts.now ≡ n.texts) }
-    ensures by_index { (edges choices bytes : List ℕ) (root space : ℕ) → length edges ≡ n.edges → length choices ≡ n.choices → result ≡ tablesFault (tables nodes.now edges choices texts.now bytes n.annotations root space) }
+    ensures by_index { (edges choices bytes : List ℕ) (root space : ℕ) → length edges ≡ n.edges → length choices ≡ n.choices → result ≡ tables_fault (tables nodes.now edges choices texts.now bytes n.annotations root space) }
     ensures wide { result ≡ 0 → Wide 8 nodes.now (length nodes.now) × Wide 3 texts.now (length texts.now) }
 {
     let h = header_fault(n.nodes, n.edges, n.texts, n.annotations, n.choices);
@@ -70,7 +70,7 @@ fn write_right(
     bytes: &[u8],
     out: &mut [u8],
 ) -> Outcome
-    requires space_value { tablesFault (tables nodes.now edges.now choices.now texts.now bytes.now n.annotations n.root.0 n.space.0) ≡ 0 }
+    requires space_value { tables_fault (tables nodes.now edges.now choices.now texts.now bytes.now n.annotations n.root.0 n.space.0) ≡ 0 }
     requires sized { Sized (tables nodes.now edges.now choices.now texts.now bytes.now n.annotations n.root.0 n.space.0) }
     requires judged { Judged (tables nodes.now edges.now choices.now texts.now bytes.now n.annotations n.root.0 n.space.0) 0 }
     ensures { Writes (tables nodes.now edges.now choices.now texts.now bytes.now n.annotations n.root.0 n.space.0) (length bytes.now ≡ lengths texts.now) out.old out.new result }
@@ -170,7 +170,7 @@ pub fn write(
     bytes: &[u8],
     out: &mut [u8],
 ) -> Outcome
-    ensures { Writes (lentTables n nodes.now edges.now choices.now texts.now bytes.now) (LentAt n nodes.now edges.now choices.now texts.now bytes.now) out.old out.new result }
+    ensures { Writes (lent_tables n nodes.now edges.now choices.now texts.now bytes.now) (LentAt n nodes.now edges.now choices.now texts.now bytes.now) out.old out.new result }
 {
     let a = n.nodes as usize;
     if nodes.len() < a {

@@ -8,7 +8,7 @@ use Rattle.layout.specs.Spans.{Span}
 use Rattle.spans.specs.declared.AnnotationSpan.{AnnotationSpan}
 use Rattle.spans.specs.declared.Parent.{Parent}
 use Rattle.spans.specs.declared.Parent.TheVariants.{Nothing, Span as Inside}
-use Rattle.spans.specs.Spans.{parentOf}
+use Rattle.spans.specs.Spans.{parent_from}
 use Rattle.solve_workspace.specs.declared.Bounds.{Bounds}
 use Rattle.solve_workspace.specs.declared.RenderOptions.{RenderOptions}
 use Rattle.materialize.specs.Rows.{Row, parent_word}
@@ -35,14 +35,14 @@ use Rattle.printer.specs.Delivered.{outcome, counts_first, counts_last, WroteOf,
 -- ---- a record, as a row and back
 
 abbrev record_of : Row → AnnotationSpan
-record_of r = record { annotation = record { 0 = get_or r 0 0 }; start = get_or r 1 0; end = get_or r 2 0; parent = parentOf (get_or r 3 0) }
+record_of r = record { annotation = record { 0 = get_or r 0 0 }; start = get_or r 1 0; end = get_or r 2 0; parent = parent_from (get_or r 3 0) }
 
 parent_there : (p : Parent) → parent_of (parent_word (parent_in p)) ≡ parent_in p
 parent_there Nothing = refl
 parent_there (Inside s) = refl
 
-parent_back : (p : Parent) → parentOf (parent_word (parent_in p)) ≡ p
-unfolding parentOf
+parent_back : (p : Parent) → parent_from (parent_word (parent_in p)) ≡ p
+unfolding parent_from
 parent_back Nothing = refl
 parent_back (Inside s) = refl
 

@@ -2,4 +2,3 @@ pub mod Deliveries
 pub mod Made
 pub mod Parts
 pub mod Second
-pub mod Shared

@@ -26,7 +26,7 @@ use Rattle.printer.specs.Printed.{Printed}
 kept_page : {file : List ℕ} {c : Settings} {r : Rendered} {k : Counts} → Kept (Promised file c) (paged r k) → RulesPage file c r
 kept_page (as_the_call (right_page p)) = p
 
-unserved : {lent : Type 0} {D D' : Desks} {d : ℕ} {call : Limits → Answer → Unit {0} → Type 0} {b : Limits} {a : Answer} → (lent → d ≤ last_desk → ⊥) → Served lent D d call b tt a tt D' → D' ≡ D
+unserved : {lent : Type 0} {D : Desks} {d : ℕ} {call : Limits → Answer → Unit {0} → Type 0} {b : Limits} {a : Answer} {D' : Desks} → (lent → d ≤ last_desk → ⊥) → Served lent D d call b tt a tt D' → D' ≡ D
 unserved h (out_of_order n) = refl
 unserved h (no_desk l g) = refl
 unserved h (served l g c) = absurd (h l g)

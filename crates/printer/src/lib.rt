@@ -1,4 +1,6 @@
 // The public call in document 01's forms, for a desk (document 02, change 8): the caller lends the shared record and the list of span records, in which the materializer's second pass opens and closes.
+#![tactic(auto)]
+
 ghost use Rattle.std.specs.Prelude.{◌≡◌, ◌≤◌};
 ghost use Rattle.render.specs.Call.{lengths};
 ghost use Rattle.desks.specs.Desks.{remaining};
@@ -18,7 +20,7 @@ use spans::AnnotationSpan;
 use stats::SolveStats;
 
 // What a call answers; its counts stand in the lent record. A page comes with the sizes that just suffice for it. Where a size is too small, `needed` is the size that is needed there; else it is 0.
-#[derive(Drop)]
+#[derive(Clone, Copy)]
 pub enum Outcome {
     Page {
         cost: ConsumerCost,
@@ -33,7 +35,7 @@ pub enum Outcome {
 }
 
 // What the second pass begins with.
-#[derive(Drop)]
+#[derive(Clone, Copy)]
 struct Start {
     capacity: Capacity,
     chosen: Chosen,

@@ -5,7 +5,7 @@ use Prim.Native.Nat.{ℕ, zero, suc, ◌<◌}
 use native.Mathlib.Omega.{arith}
 use lib.ListN.{length, set, get_or, length-set}
 use Rattle.spans.specs.declared.AnnotationSpan.{AnnotationSpan}
-use Rattle.spans.specs.Spans.{openSpan, closeSpan, parentOf, blank}
+use Rattle.spans.specs.Spans.{open_span, close_span, parent_from, blank}
 use Rattle.materialize.specs.declared.Mark.{Mark}
 use Rattle.materialize.specs.declared.Mark.TheVariants.{Nothing, Open, Close}
 use Rattle.materialize.specs.Rows.{Row, parent_word}
@@ -18,20 +18,20 @@ map_set [] n x = refl
 map_set (y ∷ l) zero x = refl
 map_set (y ∷ l) (suc n) x = ap (λ (r : List Row). row_in y ∷ r) (map_set l n x)
 
-getD_in : (l : List AnnotationSpan) (n : ℕ) → n < length l → get_or (rows_in l) n [] ≡ row_in (get_or l n blank)
-getD_in [] n h = absurd (omega arith)
-getD_in (y ∷ l) zero h = refl
-getD_in (y ∷ l) (suc n) h = getD_in l n (omega arith)
+get_or_in : (l : List AnnotationSpan) (n : ℕ) → n < length l → get_or (rows_in l) n [] ≡ row_in (get_or l n blank)
+get_or_in [] n h = absurd (omega arith)
+get_or_in (y ∷ l) zero h = refl
+get_or_in (y ∷ l) (suc n) h = get_or_in l n (omega arith)
 
-parent_same : (w : ℕ) → parent_word (parent_in (parentOf w)) ≡ w
-unfolding parentOf
+parent_same : (w : ℕ) → parent_word (parent_in (parent_from w)) ≡ w
+unfolding parent_from
 parent_same zero = refl
 parent_same (suc k) = refl
 
 pub rows_recorded : (m : Mark) (l : List AnnotationSpan) → MarkFits (length l) m → rows_in (recorded m l) ≡ marked m (rows_in l)
 rows_recorded Nothing l f = refl
-rows_recorded (Open n k at up) l f = map_set l n (openSpan k at (parentOf up)) ∙ ap (λ (w : ℕ). set (rows_in l) n (k.0 ∷ at ∷ at ∷ w ∷ [])) (parent_same up)
-rows_recorded (Close n at) l f = map_set l n (closeSpan (get_or l n blank) at) ∙ ap (λ (r : Row). set (rows_in l) n (set r 2 at)) (sym (getD_in l n f))
+rows_recorded (Open n k at up) l f = map_set l n (open_span k at (parent_from up)) ∙ ap (λ (w : ℕ). set (rows_in l) n (k.0 ∷ at ∷ at ∷ w ∷ [])) (parent_same up)
+rows_recorded (Close n at) l f = map_set l n (close_span (get_or l n blank) at) ∙ ap (λ (r : Row). set (rows_in l) n (set r 2 at)) (sym (get_or_in l n f))
 
 pub recorded_length : (m : Mark) (l : List AnnotationSpan) → length (recorded m l) ≡ length l
 recorded_length Nothing l = refl

@@ -8,7 +8,7 @@ use Rattle.stats.specs.Counts.{counts}
 use Rattle.spans.specs.declared.AnnotationSpan.{AnnotationSpan}
 use Rattle.spans.specs.declared.Parent.{Parent}
 use Rattle.spans.specs.declared.Parent.TheVariants.{Nothing as Outside, Span as Inside}
-use Rattle.spans.specs.Spans.{openSpan, closeSpan, parentOf, blank}
+use Rattle.spans.specs.Spans.{open_span, close_span, parent_from, blank}
 use Rattle.materialize.specs.declared.Mark.{Mark}
 use Rattle.materialize.specs.declared.Mark.TheVariants.{Nothing, Open, Close}
 use Rattle.materialize.specs.declared.Capacity.{Capacity}
@@ -23,8 +23,8 @@ use Rattle.materialize.specs.Writes.{InUse, Passes, Written}
 -- a mark in span records
 abbrev pub recorded : Mark → List AnnotationSpan → List AnnotationSpan
 recorded Nothing l = l
-recorded (Open n k at up) l = set l n (openSpan k at (parentOf up))
-recorded (Close n at) l = set l n (closeSpan (get_or l n blank) at)
+recorded (Open n k at up) l = set l n (open_span k at (parent_from up))
+recorded (Close n at) l = set l n (close_span (get_or l n blank) at)
 
 -- a span record in the rule's words, and as a row of words
 abbrev pub parent_in : Parent → Option ℕ

@@ -1,4 +1,6 @@
 // The second pass over a layout, into what the caller lends: the spans into its list of span records, the visits into its record of counts.
+#![tactic(auto)]
+
 ghost use Rattle.std.specs.Prelude.{◌≡◌, ◌+◌, ◌<◌, ◌^◌, length};
 ghost use Rattle.materialize.specs.Writes.{MarkFits};
 ghost use Rattle.stats.specs.Counts.{counted, bumped};

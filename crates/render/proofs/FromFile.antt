@@ -6,7 +6,7 @@ use native.Mathlib.Omega.{arith}
 use lib.ListN.{take}
 use Rattle.file_tables.specs.Tables.{Tables}
 use Rattle.file_form.specs.declared.fill.Counts.{Counts}
-use Rattle.file_form.specs.Form.{tables_of, countsOf, Holds}
+use Rattle.file_form.specs.Form.{tables_of, counts_of, Holds}
 use Rattle.file_encode.specs.Encode.{lengths}
 use Rattle.file_encode.specs.Fields.{Bytes}
 use Rattle.file_encode.specs.Trips.{encoded}
@@ -32,9 +32,9 @@ use Rattle.render.proofs.Readiness.{file_readied}
 
 -- what an acceptance leaves
 record Left (s : List ℕ) (n : Counts) (nodes : List (List ℕ)) (edges choices : List ℕ) (texts : List (List ℕ)) (bytes : List ℕ) : Type 0 where
-  means : Means s (Accepted (countsOf s))
-  counts : countsOf s ≡ n
-  holds : Holds (tables_of s) (countsOf s) nodes edges choices texts bytes
+  means : Means s (Accepted (counts_of s))
+  counts : counts_of s ≡ n
+  holds : Holds (tables_of s) (counts_of s) nodes edges choices texts bytes
 
 in_order : {o : RenderOptions} {b : Bounds} {l : Lengths} → InOrder o b l → Ordered (InOrder o b l) (settings o)
 in_order i = record { wide = i.options.width; policy_known = i.options.policy; rule_known = i.options.rule; lent_enough = i }
@@ -46,11 +46,11 @@ module _ (s : List ℕ) (lent : Type 0) (nodes : List (List ℕ)) (edges choices
   left n (accepted l m h) e = record { means = m; counts = cc; holds = h }
 
   -- memory is as long as the counts of the file, and ready for solver and materializer
-  held_ready : Bytes s → Means s (Accepted (countsOf s)) → Holds (tables_of s) (countsOf s) nodes edges choices texts bytes → Holding (countsOf s) nodes edges choices texts bytes
+  held_ready : Bytes s → Means s (Accepted (counts_of s)) → Holds (tables_of s) (counts_of s) nodes edges choices texts bytes → Holding (counts_of s) nodes edges choices texts bytes
   held_ready z m h =
       let e = encoded s z (accepted_well m).0 in
       let l = lent_at s nodes edges choices texts bytes e h in
-      let q : lengths (take (countsOf s).texts texts) ≡ (countsOf s).bytes = ap lengths h.text_rows ∙ sym e.sized.bytes ∙ e.counted.bytes in
+      let q : lengths (take (counts_of s).texts texts) ≡ (counts_of s).bytes = ap lengths h.text_rows ∙ sym e.sized.bytes ∙ e.counted.bytes in
       record {
         nodes_in = l.nodes_lent;
         edges_in = l.edges_lent;

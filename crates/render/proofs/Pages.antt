@@ -14,7 +14,8 @@ use Rattle.machine.specs.Events.{spans as spans_size}
 use Rattle.machine.specs.Programs.{and_then, run_bind, done_passes}
 use Rattle.machine.specs.Programs.{Passes as Passing}
 use Rattle.machine.specs.Enough.{asked, peak}
-use Rattle.machine.specs.Just.{bare_out, needs_after, needless, stops_with, ends_with}
+use Rattle.machine.specs.Just.{bare_out, needs_after, needless, stops_with}
+use Rattle.machine.proofs.Just.{ends_with}
 use Rattle.machine.specs.PageNeeds.{no_stack, no_memo, no_kept, no_frontier, no_plans, output_need, spans_need}
 use Rattle.machine.specs.Materializer.{Rendered as Sheet, marks, materialize, rendered}
 use Rattle.machine.specs.Answer.{answer_of}

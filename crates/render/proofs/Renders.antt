@@ -15,7 +15,8 @@ use Rattle.machine.specs.Events.{Bounds as Limits, Counts as Tally, no_counts}
 use Rattle.machine.specs.Materializer.{Rendered as Sheet}
 use Rattle.machine.specs.Answer.{Answer, paged, refused}
 use Rattle.answer.specs.Answer.{Answers}
-use Rattle.answer.specs.Demand.{promised, only_page, needs_within, just_page, less_refused}
+use Rattle.answer.specs.Demand.{only_page, needs_within, just_page, less_refused}
+use Rattle.answer.proofs.Demand.{promised}
 use Rattle.stats.specs.declared.SolveStats.{SolveStats}
 use Rattle.solve_workspace.specs.declared.Bounds.{Bounds}
 use Rattle.solve_workspace.specs.declared.RenderOptions.{RenderOptions}

@@ -12,7 +12,7 @@ use Rattle.layout.specs.Table.{Table}
 use Rattle.plan.specs.declared.PlanNode.{PlanNode as Node}
 use Rattle.plan.specs.declared.PlanNode.TheVariants.{Empty, Text, Newline, Concat, Annotate, Penalty}
 use Rattle.plan.specs.Arena.{arena}
-use Rattle.plan.specs.Layouts.{layout_of, layoutsAfter, layouts}
+use Rattle.plan.specs.Layouts.{layout_of as read_layout, read_layouts_after, layouts}
 use Rattle.machine.specs.Events.{no_counts, with_needs, Prog, ret, ◌>>◌, Out, run}
 use Rattle.machine.specs.Programs.{and_then, run_bind}
 use Rattle.machine.specs.Model.{Prepared, layout_of, layouts_after, plan_at}
@@ -40,7 +40,7 @@ use Rattle.machine.specs.Quiet.{unvisited}
 -- ---- one layout of a plan
 
 module _ (T : Table) where
-  record_same : (ps : List Plan) (x : Node) → layout_of T ps (node_of x) ≡ layout_of T.texts ps x
+  record_same : (ps : List Plan) (x : Node) → layout_of T ps (node_of x) ≡ read_layout T.texts ps x
   record_same ps Empty = refl
   record_same ps (Text t) = refl
   record_same ps (Newline i) = refl
@@ -48,10 +48,10 @@ module _ (T : Table) where
   record_same ps (Annotate a p) = refl
   record_same ps (Penalty n p) = refl
 
-  records_same : (ps : List Plan) (l : List Node) → layouts_after T ps (map node_of l) ≡ layoutsAfter T.texts ps l
-  unfolding layoutsAfter
+  records_same : (ps : List Plan) (l : List Node) → layouts_after T ps (map node_of l) ≡ read_layouts_after T.texts ps l
+  unfolding read_layouts_after
   records_same ps [] = refl
-  records_same ps (x ∷ l) = ap (λ (p : Plan). layouts_after T (ps ++ (p ∷ [])) (map node_of l)) (record_same ps x) ∙ records_same (ps ++ (layout_of T.texts ps x ∷ [])) l
+  records_same ps (x ∷ l) = ap (λ (p : Plan). layouts_after T (ps ++ (p ∷ [])) (map node_of l)) (record_same ps x) ∙ records_same (ps ++ (read_layout T.texts ps x ∷ [])) l
 
   pub plan_same : (l : List Node) (i : ℕ) → plan_at T (map node_of l) i ≡ get_or (layouts T.texts l) i blank
   unfolding plan_at layouts

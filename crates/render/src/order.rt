@@ -6,7 +6,7 @@ use prepare::read::tables_lent;
 use solve_workspace::{Bounds, RenderOptions};
 
 // How many rows or words each lent slice has.
-#[derive(Drop)]
+#[derive(Clone, Copy)]
 pub struct Lengths {
     pub nodes: usize,
     pub edges: usize,

@@ -16,7 +16,7 @@ use solve_workspace::{Bounds, Needs, Why};
 use stats::SolveStats;
 
 // What a call answers. A page comes with the sizes that just suffice for it. Where a size is too small, `needed` is the size that is needed there; else it is 0.
-#[derive(Drop)]
+#[derive(Clone, Copy)]
 pub enum Rendered {
     Page {
         cost: ConsumerCost,
@@ -34,7 +34,7 @@ pub enum Rendered {
 
 // A page that is chosen and measured, but not written. Its counts are the solver's, without the visits. Its layout is the plan `root` of the first `plans` plan records,
 // over the first `texts` rows of texts and the first `bytes` of their bytes.
-#[derive(Drop)]
+#[derive(Clone, Copy)]
 pub struct Draft {
     pub cost: ConsumerCost,
     pub length: usize,
@@ -49,7 +49,7 @@ pub struct Draft {
 }
 
 // What a call comes to before anything is written.
-#[derive(Drop)]
+#[derive(Clone, Copy)]
 pub enum Drafted {
     Page(Draft),
     Refused {

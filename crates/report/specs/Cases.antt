@@ -7,7 +7,8 @@ use Rattle.cost.specs.Cost.{Cost}
 use Rattle.machine.specs.Events.{Bounds, no_counts}
 use Rattle.machine.specs.Answer.{paged, refused}
 use Rattle.answer.specs.Answer.{Settings}
-use Rattle.answer.specs.Worked.{bytes_of, sound, texted, tried, counted, needing, worked}
+use Rattle.answer.specs.Worked.{bytes_of, sound, texted, tried, counted, needing}
+use Rattle.answer.proofs.Worked.{worked}
 use Rattle.report.specs.Report.{Row, Report, insert, remove, whole}
 use Rattle.report.specs.Answers.{CostFits, Admitted, inserted, removed, no_bytes, fits, StepAnswers, no_place, full, row_refused, tested}
 

@@ -9,6 +9,5 @@ pub mod Exactly
 pub mod Whole
 pub mod Same
 pub mod Sizes
-pub mod OneDocument
 pub mod Filed
 pub mod Cases

@@ -1,7 +1,7 @@
 -- Laws of insertion and removal in lists.
 use Rattle.std.specs.Prelude.{◌≡◌, refl, List, [], ◌∷◌, ◌++◌, map, ℕ, zero, suc, ◌+◌, ◌≤◌, length, take, drop}
-use Rattle.std.proofs.Common.{sym, ap, ap₂, ◌∙◌, append_nil, arith, length-append, length-drop, take-append-drop, drop_of_length-le, length-take-le, take_all, drop-drop, take_at, drop_at}
-use Rattle.std.proofs.lemmas.List.{map_append}
+use Rattle.std.proofs.Common.{sym, ap, ap₂, ◌∙◌, append-nil, arith, length-append, length-drop, take-append-drop, drop_of_length-le, length-take-le, take_all, drop-drop, take_at, drop_at}
+use Rattle.std.proofs.lemmas.List.{map-append}
 use Rattle.std.proofs.Math.Seq.{take-nil}
 use Rattle.report.specs.Report.{insert_at, remove_at}
 
@@ -16,7 +16,7 @@ module _ {A : Type 0} where
 
   -- there is none at that place
   pub remove_none : (i : ℕ) (l : List A) → length l ≤ i → remove_at i 1 l ≡ l
-  remove_none i l h = ap₂ (λ (x y : List A). x ++ y) (take_all i l h) (drop_of_length-le l {i = i + 1} (omega (arith, h))) ∙ append_nil l
+  remove_none i l h = ap₂ (λ (x y : List A). x ++ y) (take_all i l h) (drop_of_length-le l {i = i + 1} (omega (arith, h))) ∙ append-nil l
 
   pub length_insert : (i : ℕ) (new l : List A) → i ≤ length l → length (insert_at i new l) ≡ length new + length l
   length_insert i new l h = omega (arith, length-append (take i l) (new ++ drop i l), length-append new (drop i l), length-take-le i l h, length-drop i l)
@@ -46,8 +46,8 @@ module _ {A B : Type 0} (f : A → B) where
 
   pub map_insert : (i : ℕ) (new l : List A) → map f (insert_at i new l) ≡ insert_at i (map f new) (map f l)
   map_insert i new l =
-      map_append f (take i l) (new ++ drop i l)
-      ∙ ap₂ (λ (x y : List B). x ++ y) (map_take i l) (map_append f new (drop i l) ∙ ap (λ (r : List B). map f new ++ r) (map_drop i l))
+      map-append f (take i l) (new ++ drop i l)
+      ∙ ap₂ (λ (x y : List B). x ++ y) (map_take i l) (map-append f new (drop i l) ∙ ap (λ (r : List B). map f new ++ r) (map_drop i l))
 
   pub map_remove : (i n : ℕ) (l : List A) → map f (remove_at i n l) ≡ remove_at i n (map f l)
-  map_remove i n l = map_append f (take i l) (drop (i + n) l) ∙ ap₂ (λ (x y : List B). x ++ y) (map_take i l) (map_drop (i + n) l)
+  map_remove i n l = map-append f (take i l) (drop (i + n) l) ∙ ap₂ (λ (x y : List B). x ++ y) (map_take i l) (map_drop (i + n) l)

@@ -9,7 +9,7 @@ use Rattle.layout.specs.Cheapest.{Cheapest}
 use Rattle.layout.specs.Table.{Reads}
 use Rattle.layout.specs.Report.{report_doc}
 use Rattle.file_encode.specs.Fields.{Bytes}
-use Rattle.file_form.specs.Form.{countsOf}
+use Rattle.file_form.specs.Form.{counts_of}
 use Rattle.prepare.specs.declared.read.Answer.TheVariants.{Accepted}
 use Rattle.prepare.specs.File.{Means}
 use Rattle.machine.specs.Materializer.{Rendered}
@@ -20,7 +20,7 @@ use Rattle.report.specs.Report.{Row, Report, rows_most}
 -- a row is an accepted file with the rule's page of it
 pub record RightRow (c : Settings) (r : Row) : Type 0 where
   pub in_bytes : Bytes r.file
-  pub means : Means r.file (Accepted (countsOf r.file))
+  pub means : Means r.file (Accepted (counts_of r.file))
   pub page : RulesPage r.file c r.page
 
 abbrev pub RightRows : Settings → List Row → Type 0

@@ -90,13 +90,13 @@ asked g table place rows used at h u a = omega (arith, sum_prefix g place rows t
 
 module _ {place rows : ℕ} {page : RowPage} {file row : List ℕ} {row_spans table : List Words} {files pages : List ℕ} {marks : List Words} {used at : Totals} (T : TakingIn place rows page file row row_spans table files pages marks) (U : Totalled (take rows table) used) (A : Totalled (take place table) at) where
   pub in_files : (at.files ≤ used.files) × (used.files + length file ≤ length files)
-  in_files = (asked file_length table place rows used.files at.files T.IsPlace-in U.files_are A.files_are, omega (arith, U.files_are, T.files_room))
+  in_files = (asked file_length table place rows used.files at.files T.place_in U.files_are A.files_are, omega (arith, U.files_are, T.files_room))
 
   pub in_pages : (at.pages ≤ used.pages) × (used.pages + length (take page.length row) ≤ length pages)
-  in_pages = (asked page_length table place rows used.pages at.pages T.IsPlace-in U.pages_are A.pages_are, omega (arith, U.pages_are, T.pages_room, length-take-le page.length row T.page_in))
+  in_pages = (asked page_length table place rows used.pages at.pages T.place_in U.pages_are A.pages_are, omega (arith, U.pages_are, T.pages_room, length-take-le page.length row T.page_in))
 
   pub in_marks : (at.marks ≤ used.marks) × (used.marks + page.spans ≤ length marks) × (page.spans ≤ length row_spans) × Small page.spans row_spans
-  in_marks = (asked span_count table place rows used.marks at.marks T.IsPlace-in U.marks_are A.marks_are, omega (arith, U.marks_are, T.marks_room), T.spans_in, T.small)
+  in_marks = (asked span_count table place rows used.marks at.marks T.place_in U.marks_are A.marks_are, omega (arith, U.marks_are, T.marks_room), T.spans_in, T.small)
 
 ends : (g : Words → ℕ) (table : List Words) (place rows used at n : ℕ) → place < rows → rows ≤ length table → used ≡ sum_of g (take rows table) → at ≡ sum_of g (take place table) → n ≡ g (get_or table place []) → at + n ≤ used
 ends g table place rows used at n h l u a e = omega (arith, sum_prefix g (place + 1) rows table (omega arith), sum_next g table place (omega arith))
@@ -106,13 +106,13 @@ module _ {place rows : ℕ} {table : List Words} {files pages : List ℕ} {marks
   there = omega (arith, T.sound.rows_in, T.sound.table_lent)
 
   pub out_files : (at.files + r.file ≤ used.files) × (used.files ≤ length files)
-  out_files = (ends file_length table place rows used.files at.files r.file T.IsPlace-in there U.files_are A.files_are R.file_is, omega (arith, U.files_are, T.sound.files_in))
+  out_files = (ends file_length table place rows used.files at.files r.file T.place_in there U.files_are A.files_are R.file_is, omega (arith, U.files_are, T.sound.files_in))
 
   pub out_pages : (at.pages + r.page ≤ used.pages) × (used.pages ≤ length pages)
-  out_pages = (ends page_length table place rows used.pages at.pages r.page T.IsPlace-in there U.pages_are A.pages_are R.page_is, omega (arith, U.pages_are, T.sound.pages_in))
+  out_pages = (ends page_length table place rows used.pages at.pages r.page T.place_in there U.pages_are A.pages_are R.page_is, omega (arith, U.pages_are, T.sound.pages_in))
 
   pub out_marks : (at.marks + r.spans ≤ used.marks) × (used.marks ≤ length marks)
-  out_marks = (ends span_count table place rows used.marks at.marks r.spans T.IsPlace-in there U.marks_are A.marks_are R.spans_are, omega (arith, U.marks_are, T.sound.marks_in))
+  out_marks = (ends span_count table place rows used.marks at.marks r.spans T.place_in there U.marks_are A.marks_are R.spans_are, omega (arith, U.marks_are, T.sound.marks_in))
 
 -- ---- the whole edit
 
@@ -131,10 +131,10 @@ module _ {place rows : ℕ} {page : RowPage} {file row : List ℕ} {row_spans ta
       let long : page.length ≡ length (take page.length row) = sym (length-take-le page.length row T.page_in) in
       let many : page.spans ≡ length (map words (take page.spans row_spans)) = sym (length-map (take page.spans row_spans) words ∙ length-take-le page.spans row_spans T.spans_in) in
       let there : length t ≡ rows = length-take-le rows table₀ (omega (arith, S.rows_in, S.table_lent)) in
-      let all = rows_came place t (take (rows + 1) table) files₀ files pages₀ pages marks₀ marks S.files_in S.pages_in S.marks_in w file (take page.length row) (map words (take page.spans row_spans)) file_is (page_is ∙ long) (spans_are ∙ many) (omega (arith, there, T.IsPlace-in))
-      (came file_length table₀ place rows used.files at.files (length file) file files₀ files T.IsPlace-in U.files_are A.files_are refl f)
-      (came page_length table₀ place rows used.pages at.pages (length (take page.length row)) (take page.length row) pages₀ pages T.IsPlace-in U.pages_are A.pages_are refl p)
-      (came span_count table₀ place rows used.marks at.marks page.spans (map words (take page.spans row_spans)) marks₀ marks T.IsPlace-in U.marks_are A.marks_are many m)
+      let all = rows_came place t (take (rows + 1) table) files₀ files pages₀ pages marks₀ marks S.files_in S.pages_in S.marks_in w file (take page.length row) (map words (take page.spans row_spans)) file_is (page_is ∙ long) (spans_are ∙ many) (omega (arith, there, T.place_in))
+      (came file_length table₀ place rows used.files at.files (length file) file files₀ files T.place_in U.files_are A.files_are refl f)
+      (came page_length table₀ place rows used.pages at.pages (length (take page.length row)) (take page.length row) pages₀ pages T.place_in U.pages_are A.pages_are refl p)
+      (came span_count table₀ place rows used.marks at.marks page.spans (map words (take page.spans row_spans)) marks₀ marks T.place_in U.marks_are A.marks_are many m)
       e in
       let sums : (g : Words → ℕ) → sum_of g (take (rows + 1) table) ≡ g w + sum_of g t = λ g. ap (sum_of g) e ∙ sum_insert g place w t in
       record {
@@ -160,13 +160,13 @@ module _ {place rows : ℕ} {table₀ table : List Words} {files₀ files pages�
       let t = take rows table₀ in
       let S = T.sound in
       let there : length t ≡ rows = length-take-le rows table₀ (omega (arith, S.rows_in, S.table_lent)) in
-      let h : place < length t = omega (arith, there, T.IsPlace-in) in
+      let h : place < length t = omega (arith, there, T.place_in) in
       let less : (g : Words → ℕ) → sum_of g (take (rows - 1) table) ≤ sum_of g t = λ g. omega (arith, ap (sum_of g) e, sum_remove g place t h) in
       record {
         rows_are = rows_went place t (take (rows - 1) table) files₀ files pages₀ pages marks₀ marks S.files_in S.pages_in S.marks_in h
-            (went file_length table₀ place rows used.files at.files r.file files₀ files T.IsPlace-in U.files_are A.files_are R.file_is f)
-            (went page_length table₀ place rows used.pages at.pages r.page pages₀ pages T.IsPlace-in U.pages_are A.pages_are R.page_is p)
-            (went span_count table₀ place rows used.marks at.marks r.spans marks₀ marks T.IsPlace-in U.marks_are A.marks_are R.spans_are m)
+            (went file_length table₀ place rows used.files at.files r.file files₀ files T.place_in U.files_are A.files_are R.file_is f)
+            (went page_length table₀ place rows used.pages at.pages r.page pages₀ pages T.place_in U.pages_are A.pages_are R.page_is p)
+            (went span_count table₀ place rows used.marks at.marks r.spans marks₀ marks T.place_in U.marks_are A.marks_are R.spans_are m)
             e;
         sound = record {
           rows_in = omega (arith, S.rows_in);

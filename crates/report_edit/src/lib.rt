@@ -1,4 +1,6 @@
 // A row comes into, or goes out of, all four stores of a live report: its table of rows, files, pages and marks.
+#![tactic(auto)]
+
 ghost use Rattle.report_edit.specs.Edits.{TakingIn, TakenIn, TakingOut, TakenOut};
 
 use cost::ConsumerCost;
@@ -8,7 +10,7 @@ use report_store::{
 };
 
 // A row's own page: its cost, its bytes, its spans.
-#[derive(Drop)]
+#[derive(Clone, Copy)]
 pub struct RowPage {
     pub cost: ConsumerCost,
     pub length: usize,

@@ -1,4 +1,6 @@
 // A live report's head, and the tests before a step: 1 (order), 28 (no such desk), 23 (place not there), 24 (full). All by value; the report's memory is summed up before (`report_rows`).
+#![tactic(auto)]
+
 ghost use Rattle.std.specs.Prelude.{◌≡◌, List, ◌≤◌, ◌<◌};
 ghost use Rattle.file_checks.specs.Told.{Told};
 ghost use Rattle.report.specs.Memory.{Words};
@@ -13,7 +15,7 @@ use report_rows::Summed;
 use solve_workspace::{Bounds, RenderOptions};
 
 // What a report has beside its memory: how many rows, and its setting.
-#[derive(Drop)]
+#[derive(Clone, Copy)]
 pub struct Head {
     pub rows: u32,
     pub width: u32,
@@ -23,7 +25,7 @@ pub struct Head {
 }
 
 // How long the report's stores, output and spans are.
-#[derive(Drop)]
+#[derive(Clone, Copy)]
 pub struct Stores {
     pub files: usize,
     pub pages: usize,
@@ -32,7 +34,7 @@ pub struct Stores {
     pub spans: usize,
 }
 
-#[derive(Drop)]
+#[derive(Clone, Copy)]
 pub enum Opened {
     Report(Head),
     Refused(u32),

@@ -1,6 +1,6 @@
 -- What is put of a page and its spans, and the rows that are left.
 use mathlib.Core.Path.{◌≡◌, refl, sym, ap, ap₂, ◌∙◌}
-use mathlib.Core.List.{List, [], ◌∷◌, ◌++◌, map, append_nil, append_assoc, map_append}
+use mathlib.Core.List.{List, [], ◌∷◌, ◌++◌, map, append-nil, append_assoc, map-append}
 use Prim.Native.Nat.{ℕ, ◌+◌, ◌≤◌}
 use native.Mathlib.Numerals.{add-one}
 use native.Mathlib.Omega.{arith}
@@ -53,7 +53,7 @@ left_first t pages marks h k = record {
 }
 
 pub left_last : (ps : List Rendered) (pages : List ℕ) (marks : List Words) (k from at n : ℕ) (b : List ℕ) (m : List Words) → Left ps [] pages marks k from at n b m → (b ≡ whole_bytes ps) × (map span_of m ≡ whole_marks ps)
-left_last ps pages marks k from at n b m l = (sym (append_nil b) ∙ l.bytes, sym (append_nil (map span_of m)) ∙ l.spans)
+left_last ps pages marks k from at n b m l = (sym (append-nil b) ∙ l.bytes, sym (append-nil (map span_of m)) ∙ l.spans)
 
 -- row w lies in the stores, and has a place in what the whole takes
 pub record Asks (ps : List Rendered) (w : Words) (pages : List ℕ) (marks : List Words) (k from at n : ℕ) : Type 0 where
@@ -134,7 +134,7 @@ module _ (ps : List Rendered) (w : Words) (t : List Words) (pages : List ℕ) (m
         marks_left = omega (arith, l.marks_left);
         bytes = rw (same, ahead_later k (map bytes_of rest)) (append_assoc b (lead k ++ page_is) below ∙ ap (λ (x : List ℕ). b ++ x) (append_assoc (lead k) page_is below) ∙ bytes_now);
         spans = ap₂ (λ (x y : List Span). x ++ y)
-            (map_append span_of m ms ∙ ap (λ (x : List Span). map span_of m ++ x) (spans_moved start n marks_are))
+            (map-append span_of m ms ∙ ap (λ (x : List Span). map span_of m ++ x) (spans_moved start n marks_are))
             (ap (λ (p : List Rendered). spans_ahead (start + page_length w + length (lead (k + 1))) (n + span_count w) p) same ∙ ap₂ (λ (x y : ℕ). spans_ahead x y rest) u v)
             ∙ append_assoc (map span_of m) own after
             ∙ spans_now;

@@ -2,7 +2,7 @@
 use mathlib.Core.Path.{◌≡◌, sym, ap, ◌∙◌}
 use mathlib.Core.List.{List, [], ◌∷◌, ◌++◌, map}
 use Prim.Native.Nat.{ℕ, suc, ◌+◌, ◌≤◌, ◌<◌}
-use native.Mathlib.Nat.{add_zero}
+use native.Mathlib.Nat.{add-zero}
 use native.Mathlib.Numerals.{add-one}
 use native.Mathlib.Omega.{arith}
 use lib.ListN.{length, get_or, set, take, drop, get_or-map}
@@ -14,7 +14,7 @@ pub record Put {A : Type 0} (l : List A) (at : ℕ) (s : List A) (i : ℕ) (r : 
 
 -- one list after the other
 pub put_both : {A : Type 0} (l : List A) (at : ℕ) (a b : List A) → sets l at (a ++ b) ≡ sets (sets l at a) (at + length a) b
-put_both l at [] b = ap (λ (k : ℕ). sets l k b) (sym (add_zero at))
+put_both l at [] b = ap (λ (k : ℕ). sets l k b) (sym (add-zero at))
 put_both l at (x ∷ a) b =
     let e : suc at + length a ≡ at + suc (length a) = omega arith in
     put_both (set l at x) (suc at) a b ∙ ap (λ (k : ℕ). sets (sets (set l at x) (suc at) a) k b) e

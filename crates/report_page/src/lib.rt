@@ -1,4 +1,6 @@
 // A live report's whole page and its spans, from the rows' own: byte 10 between neighbours, positions and parents moved.
+#![tactic(auto)]
+
 ghost use Rattle.std.specs.Prelude.{◌≡◌, map, ◌+◌, ◌≤◌, ◌<◌, ◌^◌, length, take, drop};
 ghost use Rattle.std.proofs.lemmas.List.Edits.{sets};
 ghost use Rattle.report_page.specs.Moves.{lead, moved_parent, moved_words};

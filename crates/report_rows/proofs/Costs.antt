@@ -1,9 +1,9 @@
 -- Laws for the sum of costs: what a turn of the loop leaves, and that a sum past its widths stays so.
 use mathlib.Core.Path.{◌≡◌, refl, sym, ap, subst, ◌∙◌}
 use mathlib.Core.Bool.{Bool, true, false, cond}
-use mathlib.Core.List.{List, [], ◌∷◌, ◌++◌, map, map_append}
+use mathlib.Core.List.{List, [], ◌∷◌, ◌++◌, map, map-append}
 use Prim.Native.Nat.{ℕ, zero, suc, ◌+◌, ◌-◌, ◌*◌, ◌^◌, ◌≤◌, ◌<◌}
-use native.Mathlib.Nat.{not-le_of_lt, lt_of_le_of_lt, mul-zero, mul-le-mul, add_zero, add-suc}
+use native.Mathlib.Nat.{not-le_of_lt, lt_of_le_of_lt, mul-zero, mul-le-mul, add-zero, add-suc}
 use native.Mathlib.Numerals.{add-one}
 use native.Mathlib.Omega.{arith}
 use mir.Syntax.{w64}
@@ -84,8 +84,8 @@ first_but t skip n = cost_sum (map cost_at (remove_at skip 1 (take n t)))
 
 cost_snoc : (l : List Words) (w : Words) → cost_sum (map cost_at (l ++ (w ∷ []))) ≡ add (cost_sum (map cost_at l)) (cost_at w)
 cost_snoc l w =
-    let one : cost_sum (cost_at w ∷ []) ≡ cost_at w = cost_cons (cost_at w) [] ∙ rw cost_nil (same_cost (add_zero _) (add_zero _)) in
-    ap cost_sum (map_append cost_at l (w ∷ [])) ∙ cost_append (map cost_at l) (cost_at w ∷ []) ∙ ap (add (cost_sum (map cost_at l))) one
+    let one : cost_sum (cost_at w ∷ []) ≡ cost_at w = cost_cons (cost_at w) [] ∙ rw cost_nil (same_cost (add-zero _) (add-zero _)) in
+    ap cost_sum (map-append cost_at l (w ∷ [])) ∙ cost_append (map cost_at l) (cost_at w ∷ []) ∙ ap (add (cost_sum (map cost_at l))) one
 
 first_none : (t : List Words) (skip : ℕ) → first_but t skip 0 ≡ zero_cost
 unfolding first_but
@@ -96,12 +96,12 @@ unfolding first_but cost_but
 first_next t skip i h = ap (λ (l : List Words). cost_sum (map cost_at (remove_at skip 1 l))) (take-suc t i [] h) ∙ go (eqb i skip) refl
   where
     go : (b : Bool) → eqb i skip ≡ b → cost_sum (map cost_at (remove_at skip 1 (take i t ++ (get_or t i [] ∷ [])))) ≡ add (cost_sum (map cost_at (remove_at skip 1 (take i t)))) (cond b zero_cost (cost_at (get_or t i [])))
-    go true e = ap (λ (l : List Words). cost_sum (map cost_at l)) (removed_last (take i t) (get_or t i []) skip (omega (arith, eqb-true i skip e, length-take-le i t (omega arith)))) ∙ same_cost (sym (add_zero _)) (sym (add_zero _))
+    go true e = ap (λ (l : List Words). cost_sum (map cost_at l)) (removed_last (take i t) (get_or t i []) skip (omega (arith, eqb-true i skip e, length-take-le i t (omega arith)))) ∙ same_cost (sym (add-zero _)) (sym (add-zero _))
     go false e = ap (λ (l : List Words). cost_sum (map cost_at l)) (removed_other (take i t) (get_or t i []) skip (λ q. eqb-false i skip e (omega (arith, q, length-take-le i t (omega arith))))) ∙ cost_snoc (remove_at skip 1 (take i t)) (get_or t i [])
 
 -- more rows, no less
 first_grows : (t : List Words) (skip i d : ℕ) → i + d ≤ length t → Grows (first_but t skip i) (first_but t skip (i + d))
-first_grows t skip i zero h = rw (add_zero i) (record { overflow = omega arith; burden = omega arith })
+first_grows t skip i zero h = rw (add-zero i) (record { overflow = omega arith; burden = omega arith })
 first_grows t skip i (suc d) h =
     let e = first_next t skip (i + d) (omega arith) in
     let g = first_grows t skip i d (omega arith) in
@@ -116,7 +116,7 @@ pub record Running (t : List Words) (skip : ℕ) (start : Cost) (i : ℕ) (sum :
 
 pub at_first : (t : List Words) (skip : ℕ) (c : ConsumerCost) → c.overflow_high < 2 ^ 64 → c.overflow_low < 2 ^ 64 → c.burden < 2 ^ 64 → Running t skip (value c) 0 (value c)
 at_first t skip c h l b = record {
-  same = rw (first_none t skip) (same_cost (sym (add_zero _)) (sym (add_zero _)));
+  same = rw (first_none t skip) (same_cost (sym (add-zero _)) (sym (add-zero _)));
   fits = record { overflow = two_digits (2 ^ 64) _ _ h l; burden = b };
 }
 

@@ -1,7 +1,7 @@
 -- One element removed from a list that grows at its end.
 use mathlib.Core.Path.{◌≡◌, refl, sym, ap, ap₂, ◌∙◌}
 use mathlib.Core.Bool.{Bool, true, false}
-use mathlib.Core.List.{List, [], ◌∷◌, ◌++◌, append_assoc, append_nil}
+use mathlib.Core.List.{List, [], ◌∷◌, ◌++◌, append_assoc, append-nil}
 use Prim.Native.Nat.{ℕ, ◌+◌, ◌<◌}
 use native.Mathlib.Omega.{arith}
 use lib.Dec.{ltb}
@@ -18,7 +18,7 @@ module _ {A : Type 0} where
   -- the new one is the one
   pub removed_last : (l : List A) (x : A) (k : ℕ) → k ≡ length l → remove_at k 1 (l ++ (x ∷ [])) ≡ remove_at k 1 l
   removed_last l x k e =
-      ap₂ (λ (a b : List A). a ++ b) (take_at l (x ∷ []) k (sym e)) (drop_of_length-le (l ++ (x ∷ [])) {i = k + 1} (omega (arith, length-append l (x ∷ [])))) ∙ append_nil l ∙ sym (remove_none k l (omega arith))
+      ap₂ (λ (a b : List A). a ++ b) (take_at l (x ∷ []) k (sym e)) (drop_of_length-le (l ++ (x ∷ [])) {i = k + 1} (omega (arith, length-append l (x ∷ [])))) ∙ append-nil l ∙ sym (remove_none k l (omega arith))
 
   -- it is one before, or none yet
   removed_before : (l : List A) (x : A) (k : ℕ) → k < length l → remove_at k 1 (l ++ (x ∷ [])) ≡ remove_at k 1 l ++ (x ∷ [])

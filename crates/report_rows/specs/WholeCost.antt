@@ -1,5 +1,5 @@
 -- Laws of costs summed: of parts, of a cost more, and the whole page's cost by them; what a told cost says.
-use Rattle.std.specs.Prelude.{◌≡◌, refl, List, [], ◌∷◌, ◌++◌, ℕ, suc, ◌+◌, ◌-◌, ◌*◌, length, take, drop}
+use Rattle.std.specs.Prelude.{◌≡◌, refl, List, [], ◌∷◌, ◌++◌, ℕ, suc, ◌-◌, ◌*◌, length, take, drop}
 use Rattle.std.proofs.Common.{sym, ap, ap₂, subst, ◌∙◌, mul-zero, mul-suc, arith, take-append-drop}
 use Rattle.cost.specs.Cost.{Cost, zero_cost, add}
 use Rattle.cost.specs.Value.{value}

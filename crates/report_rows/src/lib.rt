@@ -1,4 +1,6 @@
 // What a live report's step reads off its table of rows: sums, places, costs. Nothing is asked of what the memory holds.
+#![tactic(auto)]
+
 ghost use Rattle.std.specs.Prelude.{◌≡◌, [], map, ◌-◌, ◌*◌, ◌≤◌, ◌<◌, length, get_or, take};
 ghost use Rattle.cost.specs.Cost.{add};
 ghost use Rattle.cost.specs.Value.{value};
@@ -11,7 +13,7 @@ ghost use Rattle.report_rows.specs.Costs.{cost_sum, cost_but, CostTold};
 use cost::{ConsumerCost, Costed};
 
 // Sums over rows: bytes of files, bytes of pages, spans.
-#[derive(Drop)]
+#[derive(Clone, Copy)]
 pub struct Totals {
     pub files: usize,
     pub pages: usize,
@@ -19,14 +21,14 @@ pub struct Totals {
 }
 
 // What the rows of a sound memory sum to.
-#[derive(Drop)]
+#[derive(Clone, Copy)]
 pub enum Summed {
     Sound(Totals),
     Unsound,
 }
 
 // A row's own numbers.
-#[derive(Drop)]
+#[derive(Clone, Copy)]
 pub struct Entry {
     pub file: usize,
     pub page: usize,

@@ -1,4 +1,6 @@
 // A step once its row is solved: the whole page is tested (26, 20, 21), then the report is altered and its page delivered. Nothing is tested after the first change.
+#![tactic(auto)]
+
 ghost use Rattle.std.specs.Prelude.{◌≡◌, List, [], ◌∷◌, map, ℕ, ◌+◌, ◌-◌, ◌≤◌, ◌<◌, length, take};
 ghost use Rattle.cost.specs.Cost.{Cost};
 ghost use Rattle.cost.specs.Value.{value};
@@ -19,14 +21,14 @@ use solve_workspace::{Bounds, Needs};
 use stats::SolveStats;
 
 // A step's answer, and the report's head after it.
-#[derive(Drop)]
+#[derive(Clone, Copy)]
 pub struct Step {
     pub answer: Rendered,
     pub head: Head,
 }
 
 // The whole page: its cost, its bytes, its spans.
-#[derive(Drop)]
+#[derive(Clone, Copy)]
 pub struct Whole {
     pub cost: ConsumerCost,
     pub bytes: usize,
@@ -34,7 +36,7 @@ pub struct Whole {
 }
 
 // The whole page, or the number of its refusal and the needed size.
-#[derive(Drop)]
+#[derive(Clone, Copy)]
 pub enum Verdict {
     Fits(Whole),
     Lacks(u32, u64),

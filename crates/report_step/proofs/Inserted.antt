@@ -12,7 +12,7 @@ use Rattle.layout.specs.SpanWords.{parent_of, span_of}
 use Rattle.layout.specs.Report.{Inside, inside}
 use Rattle.machine.specs.Events.{Counts, no_counts, output, spans as spans_kind}
 use Rattle.machine.specs.Events.{Bounds as Limits}
-use Rattle.machine.specs.Answer.{Answer, paged, refused}
+use Rattle.machine.specs.Answer.{Answer, refused}
 use Rattle.stats.specs.declared.SolveStats.{SolveStats}
 use Rattle.stats.specs.Counts.{none_counted}
 use Rattle.solve_workspace.specs.declared.Bounds.{Bounds}

@@ -20,7 +20,7 @@ use Rattle.report.specs.Answers.{of_a_call}
 use Rattle.report.specs.Right.{RightReport}
 use Rattle.report.specs.Memory.{Words, Sound}
 use Rattle.report.specs.Exactly.{InBytes, step_numbered, refused_keeps}
-use Rattle.report.specs.Whole.{step_right}
+use Rattle.report.proofs.Whole.{step_right}
 use Rattle.report.specs.Same.{same_report}
 use Rattle.desks.specs.declared.Desks.{Desks}
 use Rattle.desks.specs.Desks.{last_desk, remaining, allowed, charged, work}

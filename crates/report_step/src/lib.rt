@@ -1,4 +1,6 @@
 // The steps of a live report for a desk (document 02, changes 2 and 8). Neither asks anything of its caller: memory that holds no report, or is lent too short, is refused by 1.
+#![tactic(auto)]
+
 ghost use Rattle.std.specs.Prelude.{◌≡◌, ◌≤◌, length};
 ghost use Rattle.stats.specs.Counts.{none_counted};
 ghost use Rattle.render.specs.Call.{lengths};
@@ -21,7 +23,7 @@ use solve_workspace::Bounds;
 use stats::SolveStats;
 
 // A step's answer, the report's head and the desks after it.
-#[derive(Drop)]
+#[derive(Clone, Copy)]
 pub struct DeskStep {
     pub answer: Rendered,
     pub head: Head,

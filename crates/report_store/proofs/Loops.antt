@@ -8,7 +8,7 @@ use lib.ListN.{length, get_or, set, take, drop, length-set, length-drop}
 use lib.Seq.{paste, paste-zero, paste-suc, drop-cons, get_or-drop}
 use Rattle.report.specs.Report.{remove_at}
 use Rattle.report_store.specs.Moves.{moved_up}
-use Rattle.report_store.proofs.Pastes.{getD_before, get_d_after, paste_front, removed}
+use Rattle.report_store.proofs.Pastes.{get_or_before, get_or_after, paste_front, removed}
 
 -- ---- up: what stands from i on has moved
 
@@ -32,7 +32,7 @@ up_is m now used n (suc i) z p h l e =
     let e₁ : suc i - 1 ≡ i = omega arith in
     let e₂ : used - i ≡ suc w = omega arith in
     let e₃ : suc i + n ≡ suc (i + n) = omega arith in
-    let stood : get_or now i z ≡ get_or m i z = rw e (getD_before m (suc i + n) (drop (suc i) m) w i z (omega arith) (omega arith)) in
+    let stood : get_or now i z ≡ get_or m i z = rw e (get_or_before m (suc i + n) (drop (suc i) m) w i z (omega arith) (omega arith)) in
     rw (e₁, e₂, stood, drop-cons m i z (omega arith), e, e₃) (paste_front m (i + n) (drop (suc i) m) w (get_or m i z) (omega arith))
 
 pub up_turn : {A : Type 0} {m now : List A} {used at n i : ℕ} (z : A) → at < i → Up m used at n now i → Up m used at n (set now (i - 1 + n) (get_or now (i - 1) z)) (i - 1)
@@ -71,7 +71,7 @@ down_is m now at n i z h l e =
     let e₂ : i + 1 - (at + n) ≡ suc w = omega arith in
     let e₃ : at + n + w ≡ i = omega arith in
     let moved : get_or s w z ≡ get_or m i z = get_or-drop (at + n) m w z ∙ ap (λ (j : ℕ). get_or m j z) e₃ in
-    let stood : get_or now i z ≡ get_or s w z = rw e (get_d_after m at s w i z (omega arith) (omega arith) (omega (arith, length-drop (at + n) m))) ∙ sym moved in
+    let stood : get_or now i z ≡ get_or s w z = rw e (get_or_after m at s w i z (omega arith) (omega arith) (omega (arith, length-drop (at + n) m))) ∙ sym moved in
     rw (e₁, e₂, stood, e) (paste-suc m at s w z (omega arith) (omega (arith, length-drop (at + n) m)))
 
 pub down_turn : {A : Type 0} {m now : List A} {used at n i : ℕ} (z : A) → i < used → Down m used at n now i → Down m used at n (set now (i - n) (get_or now i z)) (i + 1)

@@ -13,14 +13,14 @@ use Rattle.report_store.specs.Moves.{moved_up}
 module _ {A : Type 0} where
   -- ---- a paste's parts
 
-  pub getD_before : (d : List A) (to : ℕ) (s : List A) (n i : ℕ) (z : A) → i < to → to ≤ length d → get_or (paste d to s n) i z ≡ get_or d i z
-  getD_before d to s n i z h l =
+  pub get_or_before : (d : List A) (to : ℕ) (s : List A) (n i : ℕ) (z : A) → i < to → to ≤ length d → get_or (paste d to s n) i z ≡ get_or d i z
+  get_or_before d to s n i z h l =
       ap (λ (r : List A). get_or r i z) (append_assoc (take to d) (take n s) (drop (to + n) d))
       ∙ get_or-append (take to d) (take n s ++ drop (to + n) d) z i (omega (arith, length-take-le to d l))
       ∙ get_or-take to d i z h
 
-  pub get_d_after : (d : List A) (to : ℕ) (s : List A) (n i : ℕ) (z : A) → to + n ≤ i → to ≤ length d → n ≤ length s → get_or (paste d to s n) i z ≡ get_or d i z
-  get_d_after d to s n i z h l k =
+  pub get_or_after : (d : List A) (to : ℕ) (s : List A) (n i : ℕ) (z : A) → to + n ≤ i → to ≤ length d → n ≤ length s → get_or (paste d to s n) i z ≡ get_or d i z
+  get_or_after d to s n i z h l k =
       let e : to + n + (i - (to + n)) ≡ i = omega arith in
       subst
       (λ (j : ℕ). get_or (paste d to s n) j z ≡ get_or d j z)

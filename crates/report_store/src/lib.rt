@@ -1,4 +1,6 @@
 // The dense stores of a live report: table rows, bytes and marks, each in the front part of lent memory. A run of items comes in at a place, or goes from it.
+#![tactic(auto)]
+
 ghost use Rattle.std.specs.Prelude.{◌≡◌, [], ◌∷◌, map, ◌+◌, ◌-◌, ◌≤◌, ◌<◌, length, take};
 ghost use Rattle.std.proofs.Math.Seq.{paste};
 ghost use Rattle.report.specs.Report.{insert_at, remove_at};

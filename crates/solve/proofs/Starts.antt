@@ -1,7 +1,7 @@
 -- The start of a call, whatever the working memory holds; and its end: the root's result, and the best candidate.
 use mathlib.Core.Path.{◌≡◌, refl, sym, ap, ◌∙◌, subst}
 use mathlib.Core.List.{List, [], ◌∷◌, map}
-use Prim.Native.Nat.{ℕ, zero, suc, ◌-◌, ◌≤◌, ◌<◌, ◌^◌}
+use Prim.Native.Nat.{ℕ, zero, suc, ◌≤◌, ◌<◌, ◌^◌}
 use native.Mathlib.Omega.{arith}
 use lib.ListN.{length, get_or, replicate, length-append, length-map}
 use Rattle.stats.specs.declared.SolveStats.{SolveStats}
@@ -15,7 +15,7 @@ use Rattle.memo.specs.Entries.{listed}
 use Rattle.memo.proofs.Uses.{slots_enough, fresh}
 use Rattle.plan.specs.Arena.{arena}
 use Rattle.machine.specs.Events.{Counts, Kind, stack, memo, kept, frontier, plans, size, need_of, with_needs, Prog, ret, ◌>>=◌, Out, done, stop, run, counted, PlanNodes, no_counts}
-use Rattle.machine.specs.Just.{need_within}
+use Rattle.machine.proofs.Just.{need_within}
 use Rattle.machine.specs.Programs.{run_bind, and_then}
 use Rattle.machine.specs.Programs.{value as value_of_lem}
 use Rattle.machine.specs.Model.{Prepared, Candidate, Scratch, part, range, within_range, memo_key, Task, Eval, State, blank_state, with_tasks, Got, got}

@@ -5,7 +5,7 @@ use Rattle.std.proofs.Common.{sym, ap, ◌∙◌}
 use Rattle.std.proofs.Math.Bool.{true, false, not}
 use Rattle.std.proofs.Math.Option.{Option, none, some}
 use mathlib.Core.List.{List, [], ◌∷◌, ◌++◌, map}
-use Prim.Native.Nat.{ℕ, zero, suc, ◌+◌, ◌-◌, ◌≤◌, ◌<◌}
+use Prim.Native.Nat.{ℕ, zero, suc, ◌+◌, ◌≤◌, ◌<◌}
 use native.Mathlib.Omega.{arith}
 use Rattle.std.proofs.Math.ListN.{length, get_or, length-append}
 use Rattle.cost.specs.Cost.{Cost, zero_cost, add}
@@ -25,7 +25,7 @@ use Rattle.layout.specs.Table.{Node, Empty, Break, HardLine, Text, Seq, Fill, Gr
 use Rattle.layout.specs.Table.{Reads as ReadsAs}
 use Rattle.machine.specs.Events.{Prog, ret, emit, ◌>>=◌, Event, Never}
 use Rattle.machine.specs.Programs.{value, value_bind}
-use Rattle.machine.specs.Model.{ExactChoice, Prepared, children, PlanNode, PlanEmpty, PlanText, PlanNewline, PlanConcat, PlanAnnotate, PlanPenalty, PendingPlan, Existing, Made, Candidate, Scratch, scratch, no_candidate, part, range, within_range, memo_key}
+use Rattle.machine.specs.Model.{ExactChoice, Prepared, children, PlanNode, PlanEmpty, PlanText, PlanNewline, PlanConcat, PlanAnnotate, PlanPenalty, PendingPlan, Existing, Made, Candidate, Scratch, scratch, no_candidate, part, within_range, memo_key}
 use Rattle.machine.specs.Model.{Task, Eval, CompleteAlias, CompleteUnion, CompleteChoiceSet, CompleteAnnotate, CompletePenalty, ContinueSequence, CompleteSequenceRight, State, blank_state, with_tasks, with_results, with_pending, with_builder, Got, got}
 use Rattle.machine.specs.Solver.{push_exact_task, push_exact_result, push_pending, popped, pop_exact_result, checked_add, present, present_all, begin_builder, ranked, additional, plan_number, additional_plans, committed, finish_builder, singleton, existing, present_range, union_ranges, present_wrapped, wrap_range, memo_insert, complete_node, push_joined, build_pending}
 use Rattle.machine.specs.Solver.{checked_text, push_gaps, fill_boundary, push_child, complete_singleton, begin_empty, begin_text, begin_newline, begin_sequence, begin_union, begin_group, begin_nest, skip_choices, push_alternatives, begin_choice, begin_kind, begin_known, begin_node}
@@ -51,17 +51,17 @@ pub data Ends {A : Type 0} (Q : A → Type 0) : Prog A → Type 0 where
   then : {e : Event} {p : Prog A} → Ends Q p → Ends Q (emit e p)
   nowhere : {p : Prog A} → Ends Q (emit Never p)
 
-ends_bind : {A B : Type 0} {m : Prog A} {f : A → Prog B} {Q : B → Type 0} → Ends (λ a. Ends Q (f a)) m → Ends Q (m >>= f)
+ends_bind : {A B : Type 0} {f : A → Prog B} {Q : B → Type 0} {m : Prog A} → Ends (λ a. Ends Q (f a)) m → Ends Q (m >>= f)
 ends_bind (at_end h) = h
 ends_bind (then h) = then (ends_bind h)
 ends_bind nowhere = nowhere
 
-ends_imp : {A : Type 0} {m : Prog A} {Q W : A → Type 0} → ((a : A) → Q a → W a) → Ends Q m → Ends W m
+ends_imp : {A : Type 0} {Q W : A → Type 0} {m : Prog A} → ((a : A) → Q a → W a) → Ends Q m → Ends W m
 ends_imp f (at_end h) = at_end (f _ h)
 ends_imp f (then h) = then (ends_imp f h)
 ends_imp f nowhere = nowhere
 
-ends_value : {A : Type 0} {m : Prog A} {Q W : A → Type 0} → Ends Q m → Post W m → Q (value m)
+ends_value : {A : Type 0} {Q W : A → Type 0} {m : Prog A} → Ends Q m → Post W m → Q (value m)
 ends_value (at_end h) (holds_of w) = h
 ends_value (then h) (says o w) = ends_value h w
 ends_value nowhere (says o w) = absurd o
@@ -95,10 +95,10 @@ module _ {A : Type 0} (Q : A → Type 0) where
   each_drop (suc n) [] h = tt
   each_drop (suc n) (x ∷ xs) h = each_drop n xs h.1
 
-  each_getD : (xs : List A) (i : ℕ) (d : A) → Each Q xs → Q d → Q (get_or xs i d)
-  each_getD [] i d h k = k
-  each_getD (x ∷ xs) zero d h k = h.0
-  each_getD (x ∷ xs) (suc i) d h k = each_getD xs i d h.1 k
+  each_get_or : (xs : List A) (i : ℕ) (d : A) → Each Q xs → Q d → Q (get_or xs i d)
+  each_get_or [] i d h k = k
+  each_get_or (x ∷ xs) zero d h k = h.0
+  each_get_or (x ∷ xs) (suc i) d h k = each_get_or xs i d h.1 k
 
 each_imp : {A : Type 0} (Q W : A → Type 0) → ((a : A) → Q a → W a) → (xs : List A) → Each Q xs → Each W xs
 each_imp Q W f [] h = tt
@@ -221,7 +221,7 @@ module _ (t : ℕ) where
 
   part_stands : (n : ℕ) (k : List Candidate) → Standing n k → 0 < n → (s m : ℕ) → Standing n (part k s m)
   part_stands n k h p s zero = tt
-  part_stands n k h p s (suc m) = (each_getD (λ c. c.plan.plan < n) k s no_candidate h p, part_stands n k h p (s + 1) m)
+  part_stands n k h p s (suc m) = (each_get_or (λ c. c.plan.plan < n) k s no_candidate h p, part_stands n k h p (s + 1) m)
 
   existing_wait : (n : ℕ) (cs : List Candidate) → Standing n cs → Waiting t n (map existing cs)
   existing_wait n [] h = tt
@@ -308,7 +308,7 @@ module _ (t : ℕ) where
     gaps_end indent s (suc n) S h f =
         let N = length S.plans in
         let left = get_or S.retained s no_candidate in
-        let a : left.plan.plan < N = each_getD (λ c. c.plan.plan < N) S.retained s no_candidate h.num.kept_name h.has in
+        let a : left.plan.plan < N = each_get_or (λ c. c.plan.plan < N) S.retained s no_candidate h.num.kept_name h.has in
         then (ends_bind (present_ends N _ (begin_builder S) tt B.space_text_below λ b g w.
         ends_bind (present_ends N _ (with_builder b g S) w tt λ b' g' w'.
         ends_bind (finish_with (with_builder b' g' S) (built b' g' h.num w') (omega (arith, h.has)) λ G k l.
@@ -431,7 +431,7 @@ module _ (t : ℕ) where
     right_ends q x acc o start S h =
         let N = length S.plans in
         ends_bind (pop_ends S h λ r rs k.
-        ends_bind (joined_ends _ (within_range S.retained r) (with_results rs S) (each_getD (λ c. c.plan.plan < N) S.retained (acc.start + o) no_candidate h.kept_name k.has) (part_stands N S.retained h.kept_name k.has r.start r.len) h.pending_name λ ps w.
+        ends_bind (joined_ends _ (within_range S.retained r) (with_results rs S) (each_get_or (λ c. c.plan.plan < N) S.retained (acc.start + o) no_candidate h.kept_name k.has) (part_stands N S.retained h.kept_name k.has r.start r.len) h.pending_name λ ps w.
         left_next (ltb (o + 1) acc.len) q x acc o start (with_pending ps (with_results rs S)) (record { num = waited ps k.num w; has = k.has })))
 
     -- a choice set has a result at least

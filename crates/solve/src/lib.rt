@@ -1,4 +1,6 @@
 // The solver's loop (laidout's ExactSolver::solve): the tasks are worked off from the root on, and the best candidate of the root's frontier is taken.
+#![tactic(auto)]
+
 ghost use Rattle.std.specs.Prelude.{◌≡◌, cond, List, [], ℕ, ◌≤◌, length, replicate};
 ghost use Rattle.layout.specs.Rules.{Rules};
 ghost use Rattle.machine.specs.Events.{run, no_counts};
@@ -30,7 +32,7 @@ use solve_workspace::{
 use stats::SolveStats;
 
 // What the solver needed of each of its kinds, 13 to 17.
-#[derive(Drop)]
+#[derive(Clone, Copy)]
 pub struct SolverNeeds {
     pub stack: u32,
     pub memo: u32,
@@ -40,7 +42,7 @@ pub struct SolverNeeds {
 }
 
 // The chosen plan, its cost, how many plans there are, the counts, and what was needed.
-#[derive(Drop)]
+#[derive(Clone, Copy)]
 pub struct SolvedCore {
     pub root: PlanId,
     pub cost: ConsumerCost,
@@ -50,7 +52,7 @@ pub struct SolvedCore {
 }
 
 // What is found; or why not, with the size that is needed (0 where no size is too small) and the counts so far.
-#[derive(Drop)]
+#[derive(Clone, Copy)]
 pub enum Solution {
     Found(SolvedCore),
     Refused(Why, u64, SolveStats),

@@ -1,4 +1,6 @@
 // The task Eval (laidout's begin_node): what the memo has of the node, or else its first step, with the work counted and tested.
+#![tactic(auto)]
+
 ghost use Rattle.std.specs.Prelude.{List, ℕ, ◌≤◌, ◌<◌, ◌^◌, length};
 ghost use Rattle.layout.specs.Rules.{Rules};
 ghost use Rattle.memo.specs.declared.MemoLookup.TheVariants.{Found, Nothing};

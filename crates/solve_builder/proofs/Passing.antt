@@ -1,6 +1,6 @@
 -- The two walks along the survivors: what is counted or committed of those passed, and those that are left.
 use mathlib.Core.Path.{◌≡◌, refl, sym, ap, ◌∙◌, subst}
-use mathlib.Core.List.{List, [], ◌∷◌, ◌++◌, map, map_append, append_nil, append_assoc}
+use mathlib.Core.List.{List, [], ◌∷◌, ◌++◌, map, map-append, append-nil, append_assoc}
 use Prim.Native.Nat.{ℕ, suc, ◌+◌, ◌-◌, ◌≤◌, ◌<◌, ◌^◌}
 use native.Mathlib.Omega.{arith}
 use lib.ListN.{length, length-map, length-append}
@@ -35,7 +35,7 @@ unfolding additional_plans
 adds_more x l = length-append (additional (survivor x).plan.plan) (additional_plans (map survivor l))
 
 adds_append : (l m : List (Cand Pending)) → length (additional_plans (map survivor (l ++ m))) ≡ length (additional_plans (map survivor l)) + length (additional_plans (map survivor m))
-adds_append l m = ap (λ (z : List Scratch). length (additional_plans z)) (map_append survivor l m)
+adds_append l m = ap (λ (z : List Scratch). length (additional_plans z)) (map-append survivor l m)
     ∙ (ap length (additional_append (map survivor l) (map survivor m)) ∙ length-append (additional_plans (map survivor l)) (additional_plans (map survivor m)))
 
 adds_none : length (additional_plans (map survivor [])) ≡ 0
@@ -96,7 +96,7 @@ along_room g s q = omega (arith, along_length g, more_length g s q)
 
 along_end : {fs : List ℕ} {cursor : Link} {all : List (Cand Pending)} (g : Along fs cursor all) → cursor ≡ Nothing → g.past ≡ all
 along_end g q =
-    sym (append_nil g.past) ∙ (ap (λ (z : List (Cand Pending)). g.past ++ z) (sym (ends g.rest q)) ∙ g.whole)
+    sym (append-nil g.past) ∙ (ap (λ (z : List (Cand Pending)). g.past ++ z) (sym (ends g.rest q)) ∙ g.whole)
 
 past_length : (l : List (Cand Pending)) (x : Cand Pending) → length (l ++ (x ∷ [])) ≡ length l + 1
 past_length l x = length-append l (x ∷ [])
@@ -176,7 +176,7 @@ module _ {fs : List ℕ} {cursor : Link} {all : List (Cand Pending)} {ks ns ks' 
   passing_next s q x after ks₂ ns₂ n₂ e i c =
       record {
         along = along_next g.along s q after i;
-        commits = subst (λ (z : List Scratch). Commits z ks ns ks₂ ns₂ k n (k' + 1) n₂) (sym (map_append survivor g.along.past (candidate_at fs s ∷ [])))
+        commits = subst (λ (z : List Scratch). Commits z ks ns ks₂ ns₂ k n (k' + 1) n₂) (sym (map-append survivor g.along.past (candidate_at fs s ∷ [])))
             (commits_then (map survivor g.along.past) (survivor (candidate_at fs s) ∷ []) ks ns ks' ns' ks₂ ns₂ k n k' n' (k' + 1) n₂ g.commits
             (subst (λ (z : Cand Pending). Commits (survivor z ∷ []) ks' ns' ks₂ ns₂ k' n' (k' + 1) n₂) e c));
       }

@@ -1,6 +1,6 @@
 -- Laws of pending plans: those of crate plan are the machine's; and of candidates put into the kept rows with their plans.
 use mathlib.Core.Path.{◌≡◌, refl, sym, ap, ◌∙◌}
-use mathlib.Core.List.{List, [], ◌∷◌, ◌++◌, map, map_append, append_nil, append_assoc}
+use mathlib.Core.List.{List, [], ◌∷◌, ◌++◌, map, map-append, append-nil, append_assoc}
 use Prim.Native.Nat.{ℕ, zero, suc, ◌+◌, ◌≤◌, ◌<◌, ◌^◌}
 use native.Mathlib.Omega.{arith}
 use lib.ListN.{length, set, length-map, length-append}
@@ -8,7 +8,7 @@ use Rattle.plan.specs.declared.PlanNode.{PlanNode as Node}
 use Rattle.plan.specs.declared.PendingPlan.{PendingPlan as Pended}
 use Rattle.plan.specs.declared.PendingPlan.TheVariants.{Existing as Stands, Empty as NewEmpty, Text as NewText, Newline as NewNewline, Concat as NewConcat, Annotate as NewAnnotate, Penalty as NewPenalty}
 use Rattle.plan.specs.declared.Committed.{Committed}
-use Rattle.plan.specs.Records.{pendingOf}
+use Rattle.plan.specs.Records.{pending_of}
 use Rattle.plan.specs.Arena.{arena, view, additions, numbered, Committing}
 use Rattle.frontier.specs.declared.ScratchCandidate.{ScratchCandidate}
 use Rattle.frontier.specs.Candidates.{carried}
@@ -39,7 +39,7 @@ number_view n (NewConcat l r) = refl
 number_view n (NewAnnotate a c) = refl
 number_view n (NewPenalty m c) = refl
 
-words_pending : (k a b : ℕ) → plan_of (pendingOf k a b) ≡ plan_of_kind k a b
+words_pending : (k a b : ℕ) → plan_of (pending_of k a b) ≡ plan_of_kind k a b
 words_pending zero a b = refl
 words_pending (suc zero) a b = refl
 words_pending (suc (suc zero)) a b = refl
@@ -49,7 +49,7 @@ words_pending (suc (suc (suc (suc (suc zero))))) a b = refl
 words_pending (suc (suc (suc (suc (suc (suc k)))))) a b = refl
 
 -- the pending plan whose words, narrowed, are x, y and z
-pub pended : (p : Pended) (x y z k a b : ℕ) → p ≡ pendingOf x y z → x ≡ low k → y ≡ low a → z ≡ low b → plan_of p ≡ plan_of_words k a b
+pub pended : (p : Pended) (x y z k a b : ℕ) → p ≡ pending_of x y z → x ≡ low k → y ≡ low a → z ≡ low b → plan_of p ≡ plan_of_words k a b
 unfolding plan_of_words
 pended p x y z k a b e i j l = rw (e, words_pending x y z, i, j, l)
 
@@ -88,7 +88,7 @@ committed_append n (x ∷ xs) ys =
 
 pub commits_none : (ks ns : List Row) (k n : ℕ) → Commits [] ks ns ks ns k n k n
 unfolding committed additional_plans
-commits_none ks ns k n = record { number = omega arith; count = omega arith; kept = sym (append_nil (row_list candidate_of ks k)); plans = sym (append_nil (map node_of (arena ns n))) }
+commits_none ks ns k n = record { number = omega arith; count = omega arith; kept = sym (append-nil (row_list candidate_of ks k)); plans = sym (append-nil (map node_of (arena ns n))) }
 
 pub commits_one : (x : Scratch) (p : Pended) (ks ns ns' : List Row) (k n : ℕ) (row : Row) (r : Committed) → k < length ks → plan_of p ≡ x.plan.plan → candidate_of row ≡ kept_as x r.plan.0
     → Committing ns n (view p) ns' r → Commits (x ∷ []) ks ns (set ks k row) ns' k n (k + 1) r.count
@@ -98,9 +98,9 @@ commits_one x p ks ns ns' k n row r h e q d =
     let m : r.plan.0 ≡ plan_number n x.plan.plan = ap (λ (z : _). z.0) d.plan ∙ (number_view n p ∙ ap (plan_number n) e) in
     record {
       number = omega arith;
-      count = rw (append_nil (additional x.plan.plan), v, length-map (additions (view p)) node_of) d.count;
+      count = rw (append-nil (additional x.plan.plan), v, length-map (additions (view p)) node_of) d.count;
       kept = row_list_push candidate_of ks k row h ∙ ap (λ (z : Candidate). row_list candidate_of ks k ++ (z ∷ [])) (q ∙ ap (kept_as x) m);
-      plans = ap (λ (z : List Node). map node_of z) d.grown ∙ (map_append node_of (arena ns n) (additions (view p)) ∙ ap (λ (z : List PlanNode). map node_of (arena ns n) ++ z) (sym v ∙ sym (append_nil (additional x.plan.plan))));
+      plans = ap (λ (z : List Node). map node_of z) d.grown ∙ (map-append node_of (arena ns n) (additions (view p)) ∙ ap (λ (z : List PlanNode). map node_of (arena ns n) ++ z) (sym v ∙ sym (append-nil (additional x.plan.plan))));
     }
 
 pub commits_then : (xs ys : List Scratch) (ks ns ks₁ ns₁ ks₂ ns₂ : List Row) (k n k₁ n₁ k₂ n₂ : ℕ) → Commits xs ks ns ks₁ ns₁ k n k₁ n₁ → Commits ys ks₁ ns₁ ks₂ ns₂ k₁ n₁ k₂ n₂

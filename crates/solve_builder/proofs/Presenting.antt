@@ -1,7 +1,7 @@
 -- Laws of `present`: the slots' candidates are the machine's, and one presented is what the machine presents.
 use mathlib.Core.Path.{◌≡◌, refl, sym, ap, ◌∙◌, subst}
 use mathlib.Core.Bool.{Bool, true, false, not, ◌||◌, cond}
-use mathlib.Core.List.{List, [], ◌∷◌, ◌++◌, map, map_append}
+use mathlib.Core.List.{List, [], ◌∷◌, ◌++◌, map, map-append}
 use Prim.Native.Nat.{ℕ, ◌+◌, ◌-◌, ◌≤◌, ◌<◌, ◌^◌, max}
 use native.Mathlib.Omega.{arith}
 use lib.ListN.{length, length-map, length-append}
@@ -53,7 +53,7 @@ cond_map false l m = refl
 pub survive_present : (l : List (Cand Pending)) (x : Cand Pending) → presented covers (map survivor l) (survivor x) ≡ map survivor (presented covers l x)
 unfolding presented
 survive_present l x =
-    rw (survive_any l x, survive_keep l x, ← map_append survivor (keep (λ k. not (covers x k)) l) (x ∷ []))
+    rw (survive_any l x, survive_keep l x, ← map-append survivor (keep (λ k. not (covers x k)) l) (x ∷ []))
     (cond_map (any (λ k. covers k x) l) l (keep (λ k. not (covers x k)) l ++ (x ∷ [])))
 
 keep_length : {A : Type 0} (f : A → Bool) (l : List A) → length (keep f l) ≤ length l

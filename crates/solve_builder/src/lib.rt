@@ -1,5 +1,7 @@
 // One frontier under construction (laidout's begin_builder, present, finish_builder, singleton): crate frontier on the solver's registers, with the work,
 // the counts and the tests of sizes of document 01, "Calls".
+#![tactic(auto)]
+
 ghost use Rattle.std.specs.Prelude.{◌≡◌, List, [], ◌∷◌, map, ◌+◌, ◌≤◌, ◌<◌, ◌^◌, length};
 ghost use Rattle.stats.specs.declared.SolveCounter.TheVariants.{WorkItems, CandidatesGenerated};
 ghost use Rattle.stats.specs.Counts.{bumped};

@@ -1,9 +1,11 @@
 // The completing tasks (laidout's execute_task, the arms CompleteAlias to CompletePenalty): the children's results are taken off, and the node's range is completed.
+#![tactic(auto)]
+
 ghost use Rattle.std.specs.Prelude.{List, ℕ, ◌≤◌, length};
 ghost use Rattle.layout.specs.Rules.{Rules};
 ghost use Rattle.machine.specs.Model.{Prepared, range, got};
 ghost use Rattle.machine.specs.Solver.{union_ranges, wrap_range, complete_alias, complete_union};
-ghost use Rattle.machine.specs.Solver.{complete_wrapped as wrapping-up, complete_choice_set as choosing};
+ghost use Rattle.machine.specs.Solver.{complete_wrapped as wrapping_up, complete_choice_set as choosing};
 ghost use Rattle.solve_workspace.specs.Meets.{Meets, counts};
 ghost use Rattle.solve_workspace.specs.Frames.{Keeps, Memory, MemoryAt};
 ghost use Rattle.solve_workspace.specs.Rows.{Row, abs};
@@ -155,7 +157,7 @@ pub fn complete_wrapped(
     wrapper: Wrapper,
 ) -> Turn
     requires { Memory b (regs g.old).memo index.old entries.old × ((b.stack ≤ length results.old) × (Slots b frontier.old × ((b.kept ≤ length kept.old) × ((b.plans ≤ length plans.old) × ((1 ≤ (regs g.old).results) × Held b g.old))))) }
-    ensures meets { (R : Rules) (P : Prepared) (ts ps : List Row) → Meets b (counts (regs g.old)) (wrapping-up R P key (wrapping wrapper) (charging wrapper) (abs (regs g.old) ts results.old ps entries.old kept.old frontier.old plans.old)) (reached result g.new) (λ s. abs s ts results.new ps entries.new kept.new frontier.new plans.new) }
+    ensures meets { (R : Rules) (P : Prepared) (ts ps : List Row) → Meets b (counts (regs g.old)) (wrapping_up R P key (wrapping wrapper) (charging wrapper) (abs (regs g.old) ts results.old ps entries.old kept.old frontier.old plans.old)) (reached result g.new) (λ s. abs s ts results.new ps entries.new kept.new frontier.new plans.new) }
     ensures memory { MemoryAt b index.new entries.new (reached result g.new) }
 {
     solve_workspace::pop_exact_result(g, results);

@@ -1,4 +1,6 @@
 // A Seq or a Fill goes on with its next child (laidout's ContinueSequence and fill_boundary). Crate solve_right has CompleteSequenceRight.
+#![tactic(auto)]
+
 ghost use Rattle.std.specs.Prelude.{◌≡◌, true, List, ℕ, ◌≤◌, length};
 ghost use Rattle.machine.specs.Model.{Prepared, range, got};
 ghost use Rattle.machine.specs.Solver.{fill_boundary, gap_if_fill, next_child, continue_sequence};

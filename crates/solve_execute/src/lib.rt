@@ -1,4 +1,6 @@
 // One task, sorted by what it needs and handed to the crate that does it (laidout's execute_task).
+#![tactic(auto)]
+
 ghost use Rattle.std.specs.Prelude.{◌≡◌, List, [], ℕ, ◌≤◌, length, get_or};
 ghost use Rattle.layout.specs.Rules.{Rules};
 ghost use Rattle.machine.specs.Model.{Prepared, children};
@@ -18,7 +20,7 @@ use solve_ranges::Wrapper;
 use solve_workspace::{Bounds, ExactTask, RenderOptions, Turn};
 
 // A node that is finished from results.
-#[derive(Drop)]
+#[derive(Clone, Copy)]
 pub enum Finish {
     Alias(MemoKey),
     Union(MemoKey),
@@ -27,13 +29,13 @@ pub enum Finish {
 }
 
 // A sequence that goes on: with its next child, or with the right parts of a left candidate.
-#[derive(Drop)]
+#[derive(Clone, Copy)]
 pub enum Onward {
     Next(MemoKey, u32),
     Right(MemoKey, u32, u32, u32, u32, u32),
 }
 
-#[derive(Drop)]
+#[derive(Clone, Copy)]
 pub enum Sorted {
     Begin(MemoKey),
     Finishing(Finish),

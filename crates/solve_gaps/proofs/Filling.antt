@@ -16,7 +16,7 @@ use Rattle.frontier.specs.declared.ScratchCandidate.{ScratchCandidate}
 use Rattle.frontier.specs.Candidates.{carried}
 use Rattle.machine.specs.Events.{Counts, Prog, ret, emit, ◌>>=◌}
 use Rattle.machine.specs.Programs.{bind_assoc}
-use Rattle.machine.specs.Model.{Prepared, State, Scratch, Candidate, Got, Made, PlanText, scratch, no_candidate, range, within_range}
+use Rattle.machine.specs.Model.{Prepared, State, Scratch, Candidate, Got, Made, PlanText, scratch, no_candidate, within_range}
 use Rattle.machine.specs.Solver.{checked_text, push_gaps, push_joined, newline, present, begin_builder, finish_builder}
 use Rattle.solve_workspace.specs.declared.Bounds.{Bounds}
 use Rattle.solve_workspace.specs.declared.Registers.{Registers}

@@ -1,4 +1,6 @@
 // A Fill's gaps (the loop of laidout's fill_boundary): after each candidate a space or a newline, joined with it and left pending. Crate solve_continue makes the frontier of them.
+#![tactic(auto)]
+
 ghost use Rattle.std.specs.Prelude.{◌≡◌, List, ◌+◌, ◌≤◌, ◌<◌, length};
 ghost use Rattle.frontier.specs.Candidates.{carried};
 ghost use Rattle.machine.specs.Model.{Prepared, range, got};

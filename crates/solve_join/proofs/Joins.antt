@@ -1,7 +1,7 @@
 -- Laws of joined candidates.
 use mathlib.Core.Path.{◌≡◌, sym, ◌∙◌, subst}
 use mathlib.Core.List.{List, [], ◌∷◌}
-use Prim.Native.Nat.{ℕ, suc, ◌+◌, ◌-◌}
+use Prim.Native.Nat.{ℕ, suc, ◌+◌}
 use lib.ListN.{get_or}
 use Rattle.cost.specs.Cost.{Cost, add}
 use Rattle.cost.specs.Value.{outcome, within, value}

@@ -1,5 +1,7 @@
 // What the tasks of a sequence share (the loops in laidout's CompleteSequenceRight and fill_boundary, and the tasks that ContinueSequence pushes):
 // a left candidate joined with each of those that follow it, and the next child evaluated at the column where it ends.
+#![tactic(auto)]
+
 ghost use Rattle.std.specs.Prelude.{◌≡◌, List, [], ◌∷◌, ℕ, ◌+◌, ◌≤◌, ◌<◌, length, get_or};
 ghost use Rattle.layout.specs.Rules.{Rules};
 ghost use Rattle.machine.specs.Model.{Prepared, part, range, children, scratch};
@@ -19,7 +21,7 @@ use plan::PendingPlan;
 use solve_workspace::{Bounds, Candidate, ExactTask, KEPT, PENDING, STACK_PEAK, Turn, Why};
 
 // What became of a join: it is pending; there is no room for it; or its cost has no place.
-#[derive(Drop)]
+#[derive(Clone, Copy)]
 pub enum Joined {
     Put,
     Full,

@@ -1,5 +1,7 @@
 // What a node's row says (laidout's PreparedNode), a leaf's one candidate, and the tasks that a node with children pushes first.
 // No run of an accepted file reads past a table's end.
+#![tactic(auto)]
+
 ghost use Rattle.std.specs.Prelude.{◌≡◌, List, [], ℕ, ◌<◌, ◌≤◌, ◌-◌, length, get_or};
 ghost use Rattle.std.proofs.Math.Option.{some};
 ghost use Rattle.layout.specs.Rules.{Rules, policy};
@@ -22,7 +24,7 @@ use plan::PendingPlan;
 use solve_workspace::{Bounds, ExactTask, RESULTS, RenderOptions, Turn, Why};
 
 // Nodes that become a frontier of one candidate.
-#[derive(Drop)]
+#[derive(Clone, Copy)]
 pub enum Leaf {
     Empty,
     Text { text: TextId, width: u32 },
@@ -30,7 +32,7 @@ pub enum Leaf {
 }
 
 // Nodes that evaluate one child first.
-#[derive(Drop)]
+#[derive(Clone, Copy)]
 pub enum Single {
     Sequence {
         first: NodeId,
@@ -56,7 +58,7 @@ pub enum Single {
 }
 
 // Nodes with children. A Group with a flat node and a Choice without a list are unions.
-#[derive(Drop)]
+#[derive(Clone, Copy)]
 pub enum Inner {
     Single(Single),
     Union {
@@ -71,14 +73,14 @@ pub enum Inner {
 }
 
 // A node as its step needs it. A Seq or Fill without children is a leaf.
-#[derive(Drop)]
+#[derive(Clone, Copy)]
 pub enum PreparedNode {
     Leaf(Leaf),
     Inner(Inner),
 }
 
 // A node, or none.
-#[derive(Drop)]
+#[derive(Clone, Copy)]
 pub enum NodeLink {
     Node(NodeId),
     Nothing,
@@ -275,7 +277,7 @@ fn effective_indent(options: RenderOptions, indent: u32) -> u32
 }
 
 // The task that completes a node, and the child that is evaluated first; or what has no place.
-#[derive(Drop)]
+#[derive(Clone, Copy)]
 pub enum FirstChild {
     Push(ExactTask, MemoKey),
     Failed(Reason),
@@ -521,7 +523,7 @@ pub fn begin_inner(
 // ---- leaves
 
 // The one candidate of a leaf; or what has no place.
-#[derive(Drop)]
+#[derive(Clone, Copy)]
 pub enum LeafCandidate {
     Candidate(ScratchCandidate),
     Failed(Reason),

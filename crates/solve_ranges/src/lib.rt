@@ -1,4 +1,6 @@
 // Frontiers made of many candidates, from what is kept, pending or on the results (laidout's union_ranges, wrap_range and the loops that present pending ones).
+#![tactic(auto)]
+
 ghost use Rattle.std.specs.Prelude.{◌≡◌, List, ◌≤◌, length};
 ghost use Rattle.cost.specs.Value.{value};
 ghost use Rattle.layout.specs.Rules.{Rules};
@@ -20,7 +22,7 @@ use plan::{PendingPlan, PlanId};
 use solve_workspace::{Bounds, Candidate, KEPT, PENDING, RESULTS, Turn, Why};
 
 // What stands around a candidate's plan.
-#[derive(Drop)]
+#[derive(Clone, Copy)]
 pub enum Wrapper {
     Annotate(AnnotationId),
     Penalty(u32),

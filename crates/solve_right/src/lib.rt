@@ -1,4 +1,6 @@
 // The right part of a sequence (laidout's CompleteSequenceRight): a left candidate is followed by the candidates that the child has at its column.
+#![tactic(auto)]
+
 ghost use Rattle.std.specs.Prelude.{◌≡◌, false, List, [], ℕ, ◌+◌, ◌≤◌, ◌<◌, ◌^◌, ltb, length, get_or};
 ghost use Rattle.layout.specs.Rules.{Rules};
 ghost use Rattle.machine.specs.Model.{Prepared, range, children};

@@ -1,5 +1,5 @@
 -- What the rows of working memory stand for, and the state of the machine that registers and slices hold.
-use Rattle.std.specs.Prelude.{List, [], ◌∷◌, map, ℕ, zero, suc, ◌%◌, ◌^◌, length, take, get_or}
+use Rattle.std.specs.Prelude.{List, [], ◌∷◌, map, ℕ, zero, suc, ◌%◌, ◌^◌, take, get_or}
 use Rattle.cost.specs.Cost.{Cost}
 use Rattle.cost.specs.Value.{halves, value}
 use Rattle.layout.specs.Frontier.{Cand}

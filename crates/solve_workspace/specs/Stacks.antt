@@ -1,10 +1,10 @@
 -- Laws of the stacks of rows.
-use Rattle.std.specs.Prelude.{◌≡◌, refl, List, [], ◌∷◌, ◌++◌, ℕ, zero, suc, ◌+◌, ◌-◌, ◌≤◌, ◌<◌, max, length, take, get_or, set}
+use Rattle.std.specs.Prelude.{◌≡◌, refl, List, [], ◌∷◌, ◌++◌, ℕ, zero, suc, ◌+◌, ◌≤◌, ◌<◌, max, length, take, get_or, set}
 use Rattle.std.proofs.Common.{sym, ap, ◌∙◌, add-one, arith, le-leb, get_or-set_same, get_or-set_other, take-suc-set, length-take-le, get_or-take}
-use Rattle.std.proofs.lemmas.List.{map_append, length-map}
+use Rattle.std.proofs.lemmas.List.{map-append, length-map}
 use Rattle.std.proofs.lemmas.Bool.{lt-leb}
 use Rattle.std.proofs.Math.ListN.{get_or-map, get_or-eq_default}
-use Rattle.machine.specs.Events.{Counts, Prog, ret, ◌>>=◌}
+use Rattle.machine.specs.Events.{Counts, Prog, ret}
 use Rattle.machine.specs.Model.{Task, State, range, Candidate, Scratch, no_candidate, got}
 use Rattle.machine.specs.Solver.{push_exact_task, push_exact_result, push_pending, pop_exact_result}
 use Rattle.solve_workspace.specs.declared.Bounds.{Bounds}
@@ -32,7 +32,7 @@ pub row_list_length : {A : Type 0} (d : Row → A) (rows : List Row) (n : ℕ) �
 row_list_length d rows n h = length-map (take n rows) d ∙ length-take-le n rows h
 
 pub row_list_push : {A : Type 0} (d : Row → A) (rows : List Row) (i : ℕ) (x : Row) → i < length rows → row_list d (set rows i x) (i + 1) ≡ row_list d rows i ++ (d x ∷ [])
-row_list_push d rows i x h = rw (add-one, take-suc-set rows i x h, map_append d (take i rows) (x ∷ []))
+row_list_push d rows i x h = rw (add-one, take-suc-set rows i x h, map-append d (take i rows) (x ∷ []))
 
 -- the registers with one of them changed
 abbrev pub with_tasks_to : Registers → ℕ → Registers

@@ -7,7 +7,7 @@ use Rattle.memo.specs.declared.CandidateRange.{CandidateRange}
 use Rattle.plan.specs.declared.PlanRecord.{PlanRecord}
 use Rattle.plan.specs.declared.PendingPlan.{PendingPlan as Pended}
 use Rattle.plan.specs.declared.PendingPlan.TheVariants.{Existing as Stands, Empty as NewEmpty, Text as NewText, Newline as NewNewline, Concat as NewConcat, Annotate as NewAnnotate, Penalty as NewPenalty}
-use Rattle.plan.specs.Records.{recordOf}
+use Rattle.plan.specs.Records.{record_of}
 use Rattle.machine.specs.Model.{CompleteSequenceRight, PendingPlan, scratch}
 use Rattle.solve_workspace.specs.Rows.{low, task_of_kind, plan_of, plan_of_kind, plan_of_words, scratch_of}
 
@@ -26,7 +26,7 @@ last_kind (suc (suc (suc (suc (suc (suc (suc k))))))) q x r o p a b c d e f g = 
 pub low_is : (x : ℕ) → x < 2 ^ 32 → low x ≡ x
 low_is x h = mod-eq_of_lt h
 
-record_plan : (p : Pended) → plan_of_kind (recordOf p).kind (recordOf p).first (recordOf p).second ≡ plan_of p
+record_plan : (p : Pended) → plan_of_kind (record_of p).kind (record_of p).first (record_of p).second ≡ plan_of p
 record_plan (Stands p) = refl
 record_plan NewEmpty = refl
 record_plan (NewText t) = refl
@@ -36,7 +36,7 @@ record_plan (NewAnnotate a c) = refl
 record_plan (NewPenalty n c) = refl
 
 -- the words of a pending plan, in numbers of 32 bits
-pub words_plan : (p : Pended) (r : PlanRecord) → r ≡ recordOf p → r.kind < 2 ^ 32 → r.first < 2 ^ 32 → r.second < 2 ^ 32 → plan_of_words r.kind r.first r.second ≡ plan_of p
+pub words_plan : (p : Pended) (r : PlanRecord) → r ≡ record_of p → r.kind < 2 ^ 32 → r.first < 2 ^ 32 → r.second < 2 ^ 32 → plan_of_words r.kind r.first r.second ≡ plan_of p
 unfolding plan_of_words
 words_plan p r e h i j = rw (low_is r.kind h, low_is r.first i, low_is r.second j, e) (record_plan p)
 

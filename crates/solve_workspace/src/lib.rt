@@ -1,5 +1,7 @@
 // The solver's stores in lent rows and its registers in lent words (laidout's RenderWorkspace), and what it means that code meets the machine.
 // An operation takes only the slices that it touches; its contract holds for whatever the others are.
+#![tactic(auto)]
+
 ghost use Rattle.std.specs.Prelude.{◌≡◌, List, [], ℕ, ◌+◌, ◌≤◌, ◌<◌, ◌%◌, ◌^◌, length, get_or};
 ghost use Rattle.machine.specs.Events.{ret, Hit, Miss, number};
 ghost use Rattle.layout.specs.Rules.{Rules};
@@ -22,7 +24,7 @@ use plan::{PendingPlan, PlanId};
 use stats::SolveStats;
 
 // Sizes in the order of 13 to 21, and the two limits (document 01, "Calls").
-#[derive(Drop)]
+#[derive(Clone, Copy)]
 pub struct Bounds {
     pub stack: u32,
     pub memo: u32,
@@ -38,7 +40,7 @@ pub struct Bounds {
 }
 
 // The greatest size needed of each kind, in the order of 13 to 21 (document 02, change 10): the sizes with which a page just comes.
-#[derive(Drop)]
+#[derive(Clone, Copy)]
 pub struct Needs {
     pub stack: u32,
     pub memo: u32,
@@ -52,7 +54,7 @@ pub struct Needs {
 }
 
 // The settings (document 01, "Calls", and document 02, change 5).
-#[derive(Drop)]
+#[derive(Clone, Copy)]
 pub struct RenderOptions {
     pub width: u32,
     pub newline_cost: u32,
@@ -73,7 +75,7 @@ pub fn cost_model(options: RenderOptions) -> PreparedConsumerCostModel
 
 // The greatest size needed so far of the kinds whose stores do not only grow (document 02, change 10); the frontier's is that of the ones before the one at work. Kept candidates and plans only grow:
 // of them it is how many there are.
-#[derive(Drop)]
+#[derive(Clone, Copy)]
 pub struct Peaks {
     pub stack: usize,
     pub memo: usize,
@@ -82,7 +84,7 @@ pub struct Peaks {
 
 // How far each store is filled, the range that was popped or finished last, the frontier that is being built, the counts and the peaks: what contracts say of the words.
 // The code lends the words themselves.
-#[derive(Drop)]
+#[derive(Clone, Copy)]
 pub struct Registers {
     pub tasks: usize,
     pub results: usize,
@@ -98,7 +100,7 @@ pub struct Registers {
 }
 
 // Why the solver stops.
-#[derive(Drop)]
+#[derive(Clone, Copy)]
 pub enum Why {
     Domain(Reason),
     Work,
@@ -125,14 +127,14 @@ pub fn solver_number(why: Why) -> u32
 }
 
 // The solver goes on; or it stops, with the size that is needed (0 where no size is too small). The registers are the words that were lent.
-#[derive(Drop)]
+#[derive(Clone, Copy)]
 pub enum Turn {
     Going,
     Halted(Why, u64),
 }
 
 // The same with the registers: what contracts say of a turn and the words then.
-#[derive(Drop)]
+#[derive(Clone, Copy)]
 pub enum Reached {
     Go(Registers),
     Stop(Why, u64, Registers),
@@ -195,7 +197,7 @@ pub const FRONTIER_PEAK: usize = 23;
 pub const WORDS: usize = 24;
 
 // A sequence's edges, indent and kind are those of its key's node, and are read again there.
-#[derive(Drop)]
+#[derive(Clone, Copy)]
 pub enum ExactTask {
     Eval(MemoKey),
     CompleteAlias(MemoKey),
@@ -227,7 +229,7 @@ pub enum ExactTask {
 }
 
 // A kept candidate.
-#[derive(Drop)]
+#[derive(Clone, Copy)]
 pub struct Candidate {
     pub cost: ConsumerCost,
     pub last: u32,

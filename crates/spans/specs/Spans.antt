@@ -1,24 +1,24 @@
 -- A span as it is opened and as it is closed, and its parent as a word holds it.
-use Rattle.std.specs.Prelude.{ℕ, zero, suc, ◌≤◌, ◌^◌, get_or}
+use Rattle.std.specs.Prelude.{ℕ, zero, suc, ◌≤◌, ◌^◌}
 use Rattle.file_tables.specs.declared.AnnotationId.{AnnotationId}
 use Rattle.spans.specs.declared.AnnotationSpan.{AnnotationSpan}
 use Rattle.spans.specs.declared.Parent.{Parent}
 use Rattle.spans.specs.declared.Parent.TheVariants.{Nothing, Span}
 
-abbrev pub openSpan : AnnotationId → ℕ → Parent → AnnotationSpan
-openSpan a p m = record { annotation = a; start = p; end = p; parent = m }
+abbrev pub open_span : AnnotationId → ℕ → Parent → AnnotationSpan
+open_span a p m = record { annotation = a; start = p; end = p; parent = m }
 
-abbrev pub closeSpan : AnnotationSpan → ℕ → AnnotationSpan
-closeSpan s p = record { annotation = s.annotation; start = s.start; end = p; parent = s.parent }
+abbrev pub close_span : AnnotationSpan → ℕ → AnnotationSpan
+close_span s p = record { annotation = s.annotation; start = s.start; end = p; parent = s.parent }
 
 -- what `get_or` gives past the end of a list of spans
 abbrev pub blank : AnnotationSpan
 blank = record { annotation = record { 0 = 0 }; start = 0; end = 0; parent = Nothing }
 
 -- a parent as a word holds it: 0 is none, and k + 1 the span k
-abbrev pub wordFits : ℕ → Type 0
-wordFits w = w ≤ 2 ^ 32
+abbrev pub word_fits : ℕ → Type 0
+word_fits w = w ≤ 2 ^ 32
 
-unfoldable pub parentOf : ℕ → Parent
-parentOf zero = Nothing
-parentOf (suc k) = Span (record { 0 = k })
+unfoldable pub parent_from : ℕ → Parent
+parent_from zero = Nothing
+parent_from (suc k) = Span (record { 0 = k })

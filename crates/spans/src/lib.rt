@@ -1,19 +1,21 @@
 // Span records (document 01: the caller lends a list of them): annotation, start, end, parent span or none. Thin functions open and close one in the lent list.
+#![tactic(auto)]
+
 ghost use Rattle.std.specs.Prelude.{◌≡◌, ◌<◌, length, set, get_or};
-ghost use Rattle.spans.specs.Spans.{openSpan, closeSpan, blank, wordFits, parentOf};
+ghost use Rattle.spans.specs.Spans.{open_span, close_span, blank, word_fits, parent_from};
 
 use file_tables::AnnotationId;
 
-#[derive(Drop)]
+#[derive(Clone, Copy)]
 pub struct SpanId(pub u32);
 
-#[derive(Drop)]
+#[derive(Clone, Copy)]
 pub enum Parent {
     Nothing,
     Span(SpanId),
 }
 
-#[derive(Drop)]
+#[derive(Clone, Copy)]
 pub struct AnnotationSpan {
     pub annotation: AnnotationId,
     pub start: u64,
@@ -23,7 +25,7 @@ pub struct AnnotationSpan {
 
 // A span where it is opened, and the same span where it is closed.
 pub fn opened(annotation: AnnotationId, position: u64, parent: Parent) -> AnnotationSpan
-    ensures { result ≡ openSpan annotation position parent }
+    ensures { result ≡ open_span annotation position parent }
 {
     AnnotationSpan {
         annotation: annotation,
@@ -34,7 +36,7 @@ pub fn opened(annotation: AnnotationId, position: u64, parent: Parent) -> Annota
 }
 
 pub fn closed(s: AnnotationSpan, position: u64) -> AnnotationSpan
-    ensures { result ≡ closeSpan s position }
+    ensures { result ≡ close_span s position }
 {
     let mut t = s;
     t.end = position;
@@ -50,7 +52,7 @@ pub fn open_span(
     parent: Parent,
 )
     requires { at < length spans.old }
-    ensures { spans.new ≡ set spans.old at (openSpan annotation position parent) }
+    ensures { spans.new ≡ set spans.old at (open_span annotation position parent) }
 {
     spans[at] = opened(annotation, position, parent);
 }
@@ -58,15 +60,15 @@ pub fn open_span(
 // A span is closed in the lent list.
 pub fn close_span(spans: &mut [AnnotationSpan], at: usize, position: u64)
     requires { at < length spans.old }
-    ensures { spans.new ≡ set spans.old at (closeSpan (get_or spans.old at blank) position) }
+    ensures { spans.new ≡ set spans.old at (close_span (get_or spans.old at blank) position) }
 {
     spans[at] = closed(spans[at], position);
 }
 
 // A parent as a word holds it: 0 is none, and k + 1 the span k.
 pub fn parent_of(w: u64) -> Parent
-    requires { wordFits w }
-    ensures { result ≡ parentOf w }
+    requires { word_fits w }
+    ensures { result ≡ parent_from w }
 {
     if w == 0 {
         Parent::Nothing

@@ -1,8 +1,10 @@
 // The counts of a call (laidout's SolveStats, and the visits), and `increment`, which alters one counter in a lent record.
+#![tactic(auto)]
+
 ghost use Rattle.std.specs.Prelude.{◌≡◌, ◌<◌, ◌+◌, ◌^◌};
 ghost use Rattle.stats.specs.Counts.{counted, bumped};
 
-#[derive(Drop)]
+#[derive(Clone, Copy)]
 pub struct SolveStats {
     pub work_items: u64,
     pub fit_checks: u64,
@@ -33,7 +35,7 @@ impl SolveStats {
 }
 
 // What is counted one by one. Fit checks are left behind (their count is 0); the other counts of the record are set.
-#[derive(Drop)]
+#[derive(Clone, Copy)]
 pub enum SolveCounter {
     WorkItems,
     MemoHits,
@@ -44,6 +46,7 @@ pub enum SolveCounter {
 }
 
 // One counter more, by value.
+#[tactic(auto, unfolding(crate::specs::Counts::counted, crate::specs::Counts::bumped))]
 pub fn incremented(s: SolveStats, c: SolveCounter) -> SolveStats
     requires { counted s c + 1 < 2 ^ 64 }
     ensures { result ≡ bumped s c }

@@ -1,9 +1,14 @@
 // What programs that run stored calls have in common: sizes and limits from numbers, and an answer in lines as in differential/sample.
+#![tactic(auto)]
+
 use call_words::accounts::row_counts;
 use cost::ConsumerCost;
 use render::page::Rendered;
 use solve_workspace::{Bounds, Needs};
 use stats::SolveStats;
+use std::io;
+use std::io::Write;
+use streams::{print_decimal, print_hex};
 
 pub fn bounds_of(s: [u64; 9], l: [u64; 2]) -> Bounds {
     Bounds {
@@ -22,28 +27,28 @@ pub fn bounds_of(s: [u64; 9], l: [u64; 2]) -> Bounds {
 }
 
 // A line is handed on. Where the next one begins.
-pub fn hand_on(input: &[u8], from: usize) -> usize {
+pub fn hand_on<W: Write>(writer: &mut W, input: &[u8], from: usize) -> io::Result<usize> {
     let to = test_lines::behind(input, from, 10);
     if to <= input.len() {
         if from <= to {
-            io::write_all(1, &input[from..to]);
+            writer.write_all(&input[from..to])?;
         }
     }
-    to
+    Ok(to)
 }
 
-pub fn print_numbers(word: &[u8], numbers: &[u64]) {
-    io::write_all(1, word);
+pub fn print_numbers<W: Write>(writer: &mut W, word: &[u8], numbers: &[u64]) -> io::Result<()> {
+    writer.write_all(word)?;
     let mut i: usize = 0;
     while i < numbers.len() {
-        io::write_all(1, b" ");
-        io::print_decimal(1, numbers[i]);
+        writer.write_all(b" ")?;
+        print_decimal(writer, numbers[i])?;
         i += 1;
     }
-    io::write_all(1, b"\n");
+    writer.write_all(b"\n")
 }
 
-fn print_counts(k: SolveStats) {
+fn print_counts<W: Write>(writer: &mut W, k: SolveStats) -> io::Result<()> {
     let counts = [
         k.work_items,
         k.fit_checks,
@@ -56,10 +61,10 @@ fn print_counts(k: SolveStats) {
         k.plan_nodes,
         k.visits,
     ];
-    print_numbers(b"counts", &counts);
+    print_numbers(writer, b"counts", &counts)
 }
 
-fn print_needs(q: Needs) {
+fn print_needs<W: Write>(writer: &mut W, q: Needs) -> io::Result<()> {
     let needs = [
         q.stack as u64,
         q.memo as u64,
@@ -71,77 +76,82 @@ fn print_needs(q: Needs) {
         q.output as u64,
         q.spans as u64,
     ];
-    print_numbers(b"needs", &needs);
+    print_numbers(writer, b"needs", &needs)
 }
 
-fn print_byte(b: u8) {
-    io::print_hex(1, b as u64, 2);
+fn print_byte<W: Write>(writer: &mut W, b: u8) -> io::Result<()> {
+    print_hex(writer, b as u64, 2)
 }
 
-fn print_bytes(output: &[u8], count: usize) {
+fn print_bytes<W: Write>(writer: &mut W, output: &[u8], count: usize) -> io::Result<()> {
     let mut i: usize = 0;
     while i < output.len() {
         if count <= i {
-            return;
+            return Ok(());
         }
         let b = output[i];
-        print_byte(b);
+        print_byte(writer, b)?;
         i += 1;
     }
+    Ok(())
 }
 
-fn print_page(output: &[u8], count: usize) {
-    io::write_all(1, b"page ");
+fn print_page<W: Write>(writer: &mut W, output: &[u8], count: usize) -> io::Result<()> {
+    writer.write_all(b"page ")?;
     if count == 0 {
-        io::write_all(1, b"-\n");
-        return;
+        return writer.write_all(b"-\n");
     }
-    print_bytes(output, count);
-    io::write_all(1, b"\n");
+    print_bytes(writer, output, count)?;
+    writer.write_all(b"\n")
 }
 
-fn print_cost(cost: ConsumerCost) {
-    io::write_all(1, b"cost ");
-    io::print_hex(1, cost.overflow_high, 16);
-    io::print_hex(1, cost.overflow_low, 16);
+fn print_cost<W: Write>(writer: &mut W, cost: ConsumerCost) -> io::Result<()> {
+    writer.write_all(b"cost ")?;
+    print_hex(writer, cost.overflow_high, 16)?;
+    print_hex(writer, cost.overflow_low, 16)?;
     let burden = [cost.burden];
-    print_numbers(b"", &burden);
+    print_numbers(writer, b"", &burden)
 }
 
-fn print_parent(parent: u64) {
+fn print_parent<W: Write>(writer: &mut W, parent: u64) -> io::Result<()> {
     if parent == 0 {
-        io::write_all(1, b"-\n");
-        return;
+        return writer.write_all(b"-\n");
     }
-    io::print_decimal(1, parent - 1);
-    io::write_all(1, b"\n");
+    print_decimal(writer, parent - 1)?;
+    writer.write_all(b"\n")
 }
 
-fn print_span(row: [u64; 4]) {
-    io::write_all(1, b"span ");
-    io::print_decimal(1, row[0]);
-    io::write_all(1, b" ");
-    io::print_decimal(1, row[1]);
-    io::write_all(1, b" ");
-    io::print_decimal(1, row[2]);
-    io::write_all(1, b" ");
-    print_parent(row[3]);
+fn print_span<W: Write>(writer: &mut W, row: [u64; 4]) -> io::Result<()> {
+    writer.write_all(b"span ")?;
+    print_decimal(writer, row[0])?;
+    writer.write_all(b" ")?;
+    print_decimal(writer, row[1])?;
+    writer.write_all(b" ")?;
+    print_decimal(writer, row[2])?;
+    writer.write_all(b" ")?;
+    print_parent(writer, row[3])
 }
 
-fn print_spans(spans: &[[u64; 4]], count: usize) {
+fn print_spans<W: Write>(writer: &mut W, spans: &[[u64; 4]], count: usize) -> io::Result<()> {
     let mut i: usize = 0;
     while i < spans.len() {
         if count <= i {
-            return;
+            return Ok(());
         }
         let row = spans[i];
-        print_span(row);
+        print_span(writer, row)?;
         i += 1;
     }
+    Ok(())
 }
 
 // A page or a refusal, and an empty line.
-pub fn print_answer(r: Rendered, output: &[u8], spans: &[[u64; 4]]) {
+pub fn print_answer<W: Write>(
+    writer: &mut W,
+    r: Rendered,
+    output: &[u8],
+    spans: &[[u64; 4]],
+) -> io::Result<()> {
     match r {
         Rendered::Refused {
             number,
@@ -149,8 +159,8 @@ pub fn print_answer(r: Rendered, output: &[u8], spans: &[[u64; 4]]) {
             stats,
         } => {
             let numbers = [number as u64, needed];
-            print_numbers(b"refused", &numbers);
-            print_counts(stats);
+            print_numbers(writer, b"refused", &numbers)?;
+            print_counts(writer, stats)?;
         }
         Rendered::Page {
             cost,
@@ -159,14 +169,14 @@ pub fn print_answer(r: Rendered, output: &[u8], spans: &[[u64; 4]]) {
             stats,
             needs,
         } => {
-            print_page(output, length);
-            print_cost(cost);
-            print_spans(spans, count);
-            print_counts(stats);
-            print_needs(needs);
+            print_page(writer, output, length)?;
+            print_cost(writer, cost)?;
+            print_spans(writer, spans, count)?;
+            print_counts(writer, stats)?;
+            print_needs(writer, needs)?;
         }
     }
-    io::write_all(1, b"\n");
+    writer.write_all(b"\n")
 }
 
 // ---- an answer in words
@@ -210,7 +220,12 @@ fn answer_in(w: [u64; 26]) -> Rendered {
 }
 
 // A row of a batch's answers, with output and spans from the document's own place on.
-pub fn print_row(w: [u64; 26], output: &[u8], spans: &[[u64; 4]]) {
+pub fn print_row<W: Write>(
+    writer: &mut W,
+    w: [u64; 26],
+    output: &[u8],
+    spans: &[[u64; 4]],
+) -> io::Result<()> {
     let r = answer_in(w);
-    print_answer(r, output, spans);
+    print_answer(writer, r, output, spans)
 }

@@ -1,4 +1,6 @@
 // Presents pseudo-random candidates to a frontier of six slots and to a plain list, and compares number pruned, refusals and survivors after each.
+#![tactic(auto)]
+
 ghost use Rattle.std.specs.Prelude.{◌+◌, ◌<◌, ◌≤◌, length};
 ghost use Rattle.frontier.specs.Candidates.{Stands};
 ghost use Rattle.frontier.specs.Kept.{Frontier};
@@ -6,6 +8,9 @@ ghost use Rattle.test_frontier.specs.Runs.{Ready, Kept, Renewed};
 
 use cost::ConsumerCost;
 use frontier::{Builder, Link, Presented, ScratchCandidate};
+use std::io;
+use std::io::Write;
+use streams::print_decimal;
 
 const SIZE: u64 = 6;
 
@@ -156,7 +161,7 @@ fn same(frontier: &[u64], b: Builder, rows: &[[u64; 4]], count: usize) -> bool
 
 // ---- the run
 
-#[derive(Drop)]
+#[derive(Clone, Copy)]
 struct State {
     builder: Builder,
     count: usize,
@@ -277,16 +282,17 @@ fn run(frontier: &mut [u64], rows: &mut [[u64; 4]]) -> State
     s
 }
 
-fn main() {
+fn main(rt: HostRuntime) -> io::Result<()> {
     let mut frontier = [7u64; 84];
     let row = [0u64; 4];
     let mut rows = [row; 6];
     let s = run(&mut frontier, &mut rows);
-    io::write_all(1, b"presented 4000, pruned ");
-    io::print_decimal(1, s.pruned);
-    io::write_all(1, b", refused ");
-    io::print_decimal(1, s.refused);
-    io::write_all(1, b", unlike the list ");
-    io::print_decimal(1, s.wrong);
-    io::write_all(1, b"\n");
+    let writer = &mut rt.stdout();
+    writer.write_all(b"presented 4000, pruned ")?;
+    print_decimal(writer, s.pruned)?;
+    writer.write_all(b", refused ")?;
+    print_decimal(writer, s.refused)?;
+    writer.write_all(b", unlike the list ")?;
+    print_decimal(writer, s.wrong)?;
+    writer.write_all(b"\n")
 }

@@ -1,9 +1,11 @@
 // Bytes as test programs are given them: a string of bytes to a line, in hexadecimal. `#` begins a remark, and anything else is skipped.
 // A string that is longer than the lent slice is cut there. Then lines of a word with such a string, or with numbers, behind it.
+#![tactic(auto)]
+
 ghost use Rattle.std.specs.Prelude.{◌≤◌, length};
 
 // How far a line has come: its bytes, half a byte (16: none), and whether a remark has begun.
-#[derive(Drop)]
+#[derive(Clone, Copy)]
 pub struct Line {
     pub n: usize,
     pub half: u8,
@@ -110,7 +112,7 @@ pub fn behind(input: &[u8], from: usize, c: u8) -> usize {
 }
 
 // The file that a line holds, and where the line ends.
-#[derive(Drop)]
+#[derive(Clone, Copy)]
 pub struct Read {
     pub line: Line,
     pub next: usize,
@@ -136,7 +138,7 @@ pub fn file_at(input: &[u8], from: usize, file: &mut [u8]) -> Read {
     }
 }
 
-#[derive(Drop)]
+#[derive(Clone, Copy)]
 pub struct Number {
     pub value: u64,
     pub next: usize,

@@ -1,11 +1,16 @@
 // Inputs of the program `page` from standard input, in hexadecimal, one to a line: for each what the program writes.
 // `*` stands for all that the line has so far once more.
+#![tactic(auto)]
+
+use std::io;
+use std::io::Write;
+use streams::read_full;
 use test_lines::Line;
 
-fn tell(input: &[u8]) {
+fn tell<W: Write>(writer: &mut W, input: &[u8]) -> io::Result<()> {
     let mut text = [0u8; 32870];
     let k = page_text::print_page(input, &mut text);
-    io::write_all(1, &text[..k]);
+    writer.write_all(&text[..k])
 }
 
 fn again(line: Line, input: &mut [u8]) -> Line {
@@ -28,30 +33,32 @@ fn again(line: Line, input: &mut [u8]) -> Line {
 }
 
 // One more byte; at the end of a line its input is told.
-fn turn(line: Line, c: u8, input: &mut [u8]) -> Line {
+fn turn<W: Write>(writer: &mut W, line: Line, c: u8, input: &mut [u8]) -> io::Result<Line> {
     if c == 10 {
         let n = test_lines::count(line, input);
-        tell(&input[..n]);
-        return test_lines::begun();
+        tell(writer, &input[..n])?;
+        return Ok(test_lines::begun());
     }
     if c == 42 {
-        return again(line, input);
+        return Ok(again(line, input));
     }
-    test_lines::step(line, c, input)
+    Ok(test_lines::step(line, c, input))
 }
 
-fn all(lines: &[u8], input: &mut [u8]) {
+fn all<W: Write>(writer: &mut W, lines: &[u8], input: &mut [u8]) -> io::Result<()> {
     let mut line = test_lines::begun();
     let mut i: usize = 0;
     while i < lines.len() {
-        line = turn(line, lines[i], input);
+        line = turn(writer, line, lines[i], input)?;
         i += 1;
     }
+    Ok(())
 }
 
-fn main() {
+fn main(rt: HostRuntime) -> io::Result<()> {
     let mut lines = [0u8; 131072];
-    let n = io::read_full(0, &mut lines);
+    let (n, read) = read_full(&mut rt.stdin(), &mut lines);
+    read?;
     let mut input = [0u8; 40000];
-    all(&lines[..n], &mut input);
+    all(&mut rt.stdout(), &lines[..n], &mut input)
 }

@@ -1,15 +1,20 @@
 // Every map byte beside every kind byte, through the public reader and writer: a line for each kind beside which some map may stand, with these maps
 // in hexadecimal, and last how many pairs are right and how many are 3. Three times: files that end behind the kind byte (a right pair is 2), whole
 // files (a right pair is accepted, or 10, and then starred), and tables of one node (a right pair is not 3).
+#![tactic(auto)]
+
 ghost use Rattle.std.specs.Prelude.{◌≤◌};
 
 use file_tables::{NodeId, TextId};
 use prepare::read::{Answer, read};
 use prepare::write::{FileCounts, Outcome, write};
+use std::io;
+use std::io::Write;
 use std::num::wrapping_add_u32;
+use streams::{print_decimal, print_hex};
 
 // Pairs that are right, pairs that are 3, and whether the kind's line has begun.
-#[derive(Drop)]
+#[derive(Clone, Copy)]
 struct Tally {
     right: u32,
     wrong: u32,
@@ -17,47 +22,54 @@ struct Tally {
 }
 
 // One map more on a kind's line.
-fn say(t: Tally, k: u8, m: u8, mark: &[u8]) -> Tally {
+fn say<W: Write>(writer: &mut W, t: Tally, k: u8, m: u8, mark: &[u8]) -> io::Result<Tally> {
     if !t.begun {
-        io::print_decimal(1, k as u64);
+        print_decimal(writer, k as u64)?;
     }
-    io::write_all(1, b" ");
-    io::print_hex(1, m as u64, 2);
-    io::write_all(1, mark);
-    Tally {
+    writer.write_all(b" ")?;
+    print_hex(writer, m as u64, 2)?;
+    writer.write_all(mark)?;
+    Ok(Tally {
         right: wrapping_add_u32(t.right, 1),
         wrong: t.wrong,
         begun: true,
-    }
+    })
 }
 
 // The answer to a pair, where a right one has the usual answer or 10. Any other is in neither sum.
-fn tell(t: Tally, k: u8, m: u8, answer: u32, usual: u32) -> Tally {
+fn tell<W: Write>(
+    writer: &mut W,
+    t: Tally,
+    k: u8,
+    m: u8,
+    answer: u32,
+    usual: u32,
+) -> io::Result<Tally> {
     if answer == 3 {
-        return Tally {
+        return Ok(Tally {
             right: t.right,
             wrong: wrapping_add_u32(t.wrong, 1),
             begun: t.begun,
-        };
+        });
     }
     if answer == usual {
-        return say(t, k, m, b"");
+        return say(writer, t, k, m, b"");
     }
     if answer == 10 {
-        return say(t, k, m, b"*");
+        return say(writer, t, k, m, b"*");
     }
-    t
+    Ok(t)
 }
 
-fn end_line(t: Tally) -> Tally {
+fn end_line<W: Write>(writer: &mut W, t: Tally) -> io::Result<Tally> {
     if t.begun {
-        io::write_all(1, b"\n");
+        writer.write_all(b"\n")?;
     }
-    Tally {
+    Ok(Tally {
         right: t.right,
         wrong: t.wrong,
         begun: false,
-    }
+    })
 }
 
 fn bit(m: u8, weight: u8) -> u32
@@ -145,7 +157,13 @@ fn pair_number(
     read_number(&file, nodes, edges, choices, texts, bytes)
 }
 
-fn read_line(t: Tally, whole: bool, usual: u32, k: u8) -> Tally {
+fn read_line<W: Write>(
+    writer: &mut W,
+    t: Tally,
+    whole: bool,
+    usual: u32,
+    k: u8,
+) -> io::Result<Tally> {
     let node = [0u32; 8];
     let mut nodes = [node; 4096];
     let mut edges = [0u32; 16384];
@@ -167,10 +185,10 @@ fn read_line(t: Tally, whole: bool, usual: u32, k: u8) -> Tally {
             &mut texts,
             &mut bytes,
         );
-        told = tell(told, k, map, answer, usual);
+        told = tell(writer, told, k, map, answer, usual)?;
         m += 1;
     }
-    end_line(told)
+    end_line(writer, told)
 }
 
 // A table of one node, in which what the map announces is 1, and of the space text.
@@ -207,36 +225,36 @@ fn write_number(m: u8, k: u8) -> u32 {
     }
 }
 
-fn write_line(t: Tally, k: u8) -> Tally {
+fn write_line<W: Write>(writer: &mut W, t: Tally, k: u8) -> io::Result<Tally> {
     let mut told = t;
     let mut m: u32 = 0;
     while m < 64 {
         let map = m as u8;
         let answer = write_number(map, k);
-        told = tell(told, k, map, answer, answer);
+        told = tell(writer, told, k, map, answer, answer)?;
         m += 1;
     }
-    end_line(told)
+    end_line(writer, told)
 }
 
-fn line(part: u32, t: Tally, k: u8) -> Tally {
+fn line<W: Write>(writer: &mut W, part: u32, t: Tally, k: u8) -> io::Result<Tally> {
     if part == 0 {
-        return read_line(t, false, 2, k);
+        return read_line(writer, t, false, 2, k);
     }
     if part == 1 {
-        return read_line(t, true, 0, k);
+        return read_line(writer, t, true, 0, k);
     }
-    write_line(t, k)
+    write_line(writer, t, k)
 }
 
-fn sums(t: Tally) {
-    io::print_decimal(1, t.right as u64);
-    io::write_all(1, b" ");
-    io::print_decimal(1, t.wrong as u64);
-    io::write_all(1, b"\n");
+fn sums<W: Write>(writer: &mut W, t: Tally) -> io::Result<()> {
+    print_decimal(writer, t.right as u64)?;
+    writer.write_all(b" ")?;
+    print_decimal(writer, t.wrong as u64)?;
+    writer.write_all(b"\n")
 }
 
-fn lines(part: u32) {
+fn lines<W: Write>(writer: &mut W, part: u32) -> io::Result<()> {
     let mut t = Tally {
         right: 0,
         wrong: 0,
@@ -244,17 +262,18 @@ fn lines(part: u32) {
     };
     let mut k: u32 = 0;
     while k < 256 {
-        t = line(part, t, k as u8);
+        t = line(writer, part, t, k as u8)?;
         k += 1;
     }
-    sums(t);
+    sums(writer, t)
 }
 
-fn main() {
-    io::write_all(1, b"files cut behind the kind\n");
-    lines(0);
-    io::write_all(1, b"whole files\n");
-    lines(1);
-    io::write_all(1, b"tables\n");
-    lines(2);
+fn main(rt: HostRuntime) -> io::Result<()> {
+    let writer = &mut rt.stdout();
+    writer.write_all(b"files cut behind the kind\n")?;
+    lines(writer, 0)?;
+    writer.write_all(b"whole files\n")?;
+    lines(writer, 1)?;
+    writer.write_all(b"tables\n")?;
+    lines(writer, 2)
 }

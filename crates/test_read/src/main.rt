@@ -1,8 +1,13 @@
 // Files from standard input, one to a line in hexadecimal: for each the refusal's number, or `0 same` where it is accepted and, written again, has the same bytes.
 // `Z` stands for 65,535 bytes 61.
+#![tactic(auto)]
+
 use file_form::fill::Counts;
 use prepare::read::Answer;
 use prepare::write::Outcome;
+use std::io;
+use std::io::Write;
+use streams::{print_decimal, read_full};
 use test_lines::Line;
 
 fn equal(file: &[u8], out: &[u8], k: usize) -> bool {
@@ -40,7 +45,7 @@ fn same(
     }
 }
 
-fn tell(file: &[u8]) {
+fn tell<W: Write>(writer: &mut W, file: &[u8]) -> io::Result<()> {
     let node = [0u32; 8];
     let mut nodes = [node; 4096];
     let mut edges = [0u32; 16384];
@@ -59,14 +64,14 @@ fn tell(file: &[u8]) {
     match answer {
         Answer::Accepted(n) => {
             if same(file, n, &nodes, &edges, &choices, &texts, &bytes) {
-                io::write_all(1, b"0 same\n");
+                writer.write_all(b"0 same\n")
             } else {
-                io::write_all(1, b"0 differs\n");
+                writer.write_all(b"0 differs\n")
             }
         }
         Answer::Refused(number) => {
-            io::print_decimal(1, number as u64);
-            io::write_all(1, b"\n");
+            print_decimal(writer, number as u64)?;
+            writer.write_all(b"\n")
         }
     }
 }
@@ -90,30 +95,32 @@ fn run(line: Line, file: &mut [u8]) -> Line {
 }
 
 // One more byte; at the end of a line its file is told.
-fn turn(line: Line, c: u8, file: &mut [u8]) -> Line {
+fn turn<W: Write>(writer: &mut W, line: Line, c: u8, file: &mut [u8]) -> io::Result<Line> {
     if c == 10 {
         let n = test_lines::count(line, file);
-        tell(&file[..n]);
-        return test_lines::begun();
+        tell(writer, &file[..n])?;
+        return Ok(test_lines::begun());
     }
     if c == 90 {
-        return run(line, file);
+        return Ok(run(line, file));
     }
-    test_lines::step(line, c, file)
+    Ok(test_lines::step(line, c, file))
 }
 
-fn all(input: &[u8], file: &mut [u8]) {
+fn all<W: Write>(writer: &mut W, input: &[u8], file: &mut [u8]) -> io::Result<()> {
     let mut line = test_lines::begun();
     let mut i: usize = 0;
     while i < input.len() {
-        line = turn(line, input[i], file);
+        line = turn(writer, line, input[i], file)?;
         i += 1;
     }
+    Ok(())
 }
 
-fn main() {
+fn main(rt: HostRuntime) -> io::Result<()> {
     let mut input = [0u8; 65536];
-    let n = io::read_full(0, &mut input);
+    let (n, read) = read_full(&mut rt.stdin(), &mut input);
+    read?;
     let mut file = [0u8; 140000];
-    all(&input[..n], &mut file);
+    all(&mut rt.stdout(), &input[..n], &mut file)
 }

@@ -19,6 +19,8 @@
 // Of a batch are written its own number, the answer of each document tried, how many bytes and spans they take, the counts in the record (before the batch they are 1 to 10) and the desks.
 // Any other line (case NAME) is handed on. Memory is lent at the sizes of `page`, but spans at 2,048; files and pages have 65,536 bytes, and there are 4,096 marks.
 // A call that asks for more is 1, and so is a step before a report is opened. Each report has the memory that the one before it left.
+#![tactic(auto)]
+
 ghost use Rattle.std.specs.Prelude.{◌≤◌, length};
 
 use batch::FiledAll;
@@ -29,11 +31,14 @@ use desks::{DeskAnswer, Desks, SharedRecord};
 use report_gate::{Head, Opened, open_report};
 use report_step::{DeskStep, insert, remove};
 use solve_workspace::{Bounds, RenderOptions};
+use std::io;
+use std::io::Write;
+use streams::read_full;
 use test_answers::{bounds_of, hand_on, print_answer, print_numbers, print_row};
 use test_lines::{behind, file_at, number_at, numbers_at, small};
 
 // What holds for a call: the report's head, sizes and limits, the desk, the desks, and whether they are written.
-#[derive(Drop)]
+#[derive(Clone, Copy)]
 struct State {
     head: Head,
     bounds: Bounds,
@@ -43,7 +48,7 @@ struct State {
 }
 
 // What holds after a line, and where the next one begins.
-#[derive(Drop)]
+#[derive(Clone, Copy)]
 struct Turn {
     state: State,
     next: usize,
@@ -102,12 +107,12 @@ fn letter_at(input: &[u8], from: usize, i: usize) -> u8 {
     0
 }
 
-fn print_rows(h: Head) {
+fn print_rows<W: Write>(writer: &mut W, h: Head) -> io::Result<()> {
     let rows = [h.rows as u64];
-    print_numbers(b"rows", &rows);
+    print_numbers(writer, b"rows", &rows)
 }
 
-fn print_desks(s: State) {
+fn print_desks<W: Write>(writer: &mut W, s: State) -> io::Result<()> {
     if s.told {
         let d = s.desks;
         let a = d.allowance;
@@ -116,33 +121,34 @@ fn print_desks(s: State) {
             a[0], a[1], a[2], a[3], a[4], a[5], a[6], a[7], k[0], k[1], k[2], k[3], k[4], k[5],
             k[6], k[7],
         ];
-        print_numbers(b"desks", &numbers);
+        print_numbers(writer, b"desks", &numbers)?;
     }
+    Ok(())
 }
 
 // A report's head, or the one before where it is refused.
-fn opened(w: [u64; 4], h: Head) -> Head {
+fn opened<W: Write>(writer: &mut W, w: [u64; 4], h: Head) -> io::Result<Head> {
     let o = open_report(small(w[0]), small(w[1]), small(w[2]), small(w[3]));
     match o {
         Opened::Report(head) => {
-            print_rows(head);
-            return head;
+            print_rows(writer, head)?;
+            return Ok(head);
         }
         Opened::Refused(number) => {
             let numbers = [number as u64];
-            print_numbers(b"refused", &numbers);
-            return h;
+            print_numbers(writer, b"refused", &numbers)?;
+            return Ok(h);
         }
     }
 }
 
-fn open_at(input: &[u8], from: usize, s: State) -> Turn {
+fn open_at<W: Write>(writer: &mut W, input: &[u8], from: usize, s: State) -> io::Result<Turn> {
     let mut w = [0u64; 4];
     let next = numbers_at(input, from, &mut w);
     let h = s.head;
-    let head = opened(w, h);
-    io::write_all(1, b"\n");
-    turned(with_head(s, head), next)
+    let head = opened(writer, w, h)?;
+    writer.write_all(b"\n")?;
+    Ok(turned(with_head(s, head), next))
 }
 
 fn sizes_at(input: &[u8], from: usize, s: State) -> Turn {
@@ -220,23 +226,30 @@ fn words_at(input: &[u8], from: usize, e: u8, s: State) -> Turn {
 }
 
 // `open`, `sizes`, `spent`, `limits`, `desk`, `allow` or any other line, by its first letter and its third.
-fn setting_at(input: &[u8], from: usize, c: u8, e: u8, s: State) -> Turn {
+fn setting_at<W: Write>(
+    writer: &mut W,
+    input: &[u8],
+    from: usize,
+    c: u8,
+    e: u8,
+    s: State,
+) -> io::Result<Turn> {
     if c == b'o' {
-        return open_at(input, from, s);
+        return open_at(writer, input, from, s);
     }
     if c == b's' {
-        return words_at(input, from, e, s);
+        return Ok(words_at(input, from, e, s));
     }
     if c == b'l' {
-        return limits_at(input, from, s);
+        return Ok(limits_at(input, from, s));
     }
     if c == b'd' {
-        return desk_at(input, from, s);
+        return Ok(desk_at(input, from, s));
     }
     if c == b'a' {
-        return allow_at(input, from, s);
+        return Ok(allow_at(input, from, s));
     }
-    turned(s, hand_on(input, from))
+    Ok(turned(s, hand_on(writer, input, from)?))
 }
 
 fn alter(table: &mut [[u64; 8]], row: usize, word: usize, value: u64) {
@@ -320,14 +333,20 @@ fn insert_lent(
     )
 }
 
-fn tell(s: State, t: DeskStep, output: &[u8], spans: &[[u64; 4]]) -> State {
+fn tell<W: Write>(
+    writer: &mut W,
+    s: State,
+    t: DeskStep,
+    output: &[u8],
+    spans: &[[u64; 4]],
+) -> io::Result<State> {
     let answer = t.answer;
     let head = t.head;
     let told = after(s, t);
-    print_rows(head);
-    print_desks(told);
-    print_answer(answer, output, spans);
-    told
+    print_rows(writer, head)?;
+    print_desks(writer, told)?;
+    print_answer(writer, answer, output, spans)?;
+    Ok(told)
 }
 
 // All but the last of so many insertions.
@@ -379,7 +398,8 @@ fn insertion(
     insert_lent(place, file, s, table, files, pages, marks, output, spans)
 }
 
-fn insertion_at(
+fn insertion_at<W: Write>(
+    writer: &mut W,
     input: &[u8],
     from: usize,
     filling: bool,
@@ -390,7 +410,7 @@ fn insertion_at(
     marks: &mut [[u32; 4]; 4096],
     output: &mut [u8; 32768],
     spans: &mut [[u64; 4]; 2048],
-) -> Turn {
+) -> io::Result<Turn> {
     let mut file = [0u8; 8192];
     let at = behind(input, from, 32);
     let number = number_at(input, at);
@@ -408,7 +428,7 @@ fn insertion_at(
         output,
         spans,
     );
-    turned(tell(s, t, output, spans), read.next)
+    Ok(turned(tell(writer, s, t, output, spans)?, read.next))
 }
 
 // ---- removals
@@ -469,7 +489,8 @@ fn removal(
     remove_row(place, s, table, files, pages, marks, output, spans)
 }
 
-fn removal_at(
+fn removal_at<W: Write>(
+    writer: &mut W,
     input: &[u8],
     from: usize,
     emptying: bool,
@@ -480,7 +501,7 @@ fn removal_at(
     marks: &mut [[u32; 4]; 4096],
     output: &mut [u8; 32768],
     spans: &mut [[u64; 4]; 2048],
-) -> Turn {
+) -> io::Result<Turn> {
     let next = behind(input, from, 10);
     let at = behind(input, from, 32);
     let number = number_at(input, at);
@@ -488,7 +509,7 @@ fn removal_at(
     let t = removal(
         emptying, place, s, table, files, pages, marks, output, spans,
     );
-    turned(tell(s, t, output, spans), next)
+    Ok(turned(tell(writer, s, t, output, spans)?, next))
 }
 
 // ---- calls on one file
@@ -552,22 +573,29 @@ fn call_lent(
     )
 }
 
-fn tell_call(s: State, r: DeskAnswer, output: &[u8], spans: &[[u64; 4]]) -> State {
+fn tell_call<W: Write>(
+    writer: &mut W,
+    s: State,
+    r: DeskAnswer,
+    output: &[u8],
+    spans: &[[u64; 4]],
+) -> io::Result<State> {
     let answer = r.answer;
     let d = r.desks;
     let told = with_desks(s, d);
-    print_desks(told);
-    print_answer(answer, output, spans);
-    told
+    print_desks(writer, told)?;
+    print_answer(writer, answer, output, spans)?;
+    Ok(told)
 }
 
-fn call_at(
+fn call_at<W: Write>(
+    writer: &mut W,
     input: &[u8],
     from: usize,
     s: State,
     output: &mut [u8; 32768],
     spans: &mut [[u64; 4]; 2048],
-) -> Turn {
+) -> io::Result<Turn> {
     let mut file = [0u8; 8192];
     let mut w = [0u64; 3];
     let at = numbers_at(input, from, &mut w);
@@ -575,13 +603,13 @@ fn call_at(
     let read = file_at(input, at, &mut file);
     let n = test_lines::count(read.line, &file);
     let r = call_lent(&file[..n], options_of(w, rule.value), s, output, spans);
-    turned(tell_call(s, r, output, spans), read.next)
+    Ok(turned(tell_call(writer, s, r, output, spans)?, read.next))
 }
 
 // ---- batches
 
 // The documents of a batch: how many, how many bytes they have together, and where the line behind them begins.
-#[derive(Drop)]
+#[derive(Clone, Copy)]
 struct Gathered {
     documents: usize,
     bytes: usize,
@@ -686,29 +714,37 @@ fn further(at: usize, count: u64, length: usize) -> usize
     at + n
 }
 
-fn print_tried(tried: usize, answers: &[[u64; 26]], output: &[u8], spans: &[[u64; 4]]) {
+fn print_tried<W: Write>(
+    writer: &mut W,
+    tried: usize,
+    answers: &[[u64; 26]],
+    output: &[u8],
+    spans: &[[u64; 4]],
+) -> io::Result<()> {
     let mut at: usize = 0;
     let mut mark: usize = 0;
     let mut i: usize = 0;
     while i < answers.len() {
         if tried <= i {
-            return;
+            return Ok(());
         }
         let row = answers[i];
-        print_row(row, &output[at..], &spans[mark..]);
+        print_row(writer, row, &output[at..], &spans[mark..])?;
         at = further(at, row[2], output.len());
         mark = further(mark, row[3], spans.len());
         i += 1;
     }
+    Ok(())
 }
 
-fn tell_batch(
+fn tell_batch<W: Write>(
+    writer: &mut W,
     s: State,
     r: FiledAll,
     answers: &[[u64; 26]],
     output: &[u8],
     spans: &[[u64; 4]],
-) -> State {
+) -> io::Result<State> {
     let number = [r.number as u64];
     let used = [r.bytes as u64, r.spans as u64];
     let shared = r.shared;
@@ -716,17 +752,18 @@ fn tell_batch(
     let d = shared.desks;
     let counts = counts_words(k);
     let told = with_desks(s, d);
-    print_numbers(b"batch", &number);
-    print_tried(r.tried, answers, output, spans);
-    print_numbers(b"used", &used);
-    print_numbers(b"record", &counts);
-    print_desks(told);
-    io::write_all(1, b"\n");
-    told
+    print_numbers(writer, b"batch", &number)?;
+    print_tried(writer, r.tried, answers, output, spans)?;
+    print_numbers(writer, b"used", &used)?;
+    print_numbers(writer, b"record", &counts)?;
+    print_desks(writer, told)?;
+    writer.write_all(b"\n")?;
+    Ok(told)
 }
 
 // A batch in rows of answers that it is lent, told.
-fn batch_told(
+fn batch_told<W: Write>(
+    writer: &mut W,
     files: &[u8],
     lengths: &[u32],
     options: RenderOptions,
@@ -734,9 +771,9 @@ fn batch_told(
     output: &mut [u8; 32768],
     spans: &mut [[u64; 4]; 2048],
     answers: &mut [[u64; 26]],
-) -> State {
+) -> io::Result<State> {
     let r = batch_lent(files, lengths, options, s, output, spans, answers);
-    tell_batch(s, r, answers, output, spans)
+    tell_batch(writer, s, r, answers, output, spans)
 }
 
 // At most 64 rows of answers.
@@ -749,13 +786,14 @@ fn rows_of(rows: u64) -> usize
     64
 }
 
-fn batch_at(
+fn batch_at<W: Write>(
+    writer: &mut W,
     input: &[u8],
     from: usize,
     s: State,
     output: &mut [u8; 32768],
     spans: &mut [[u64; 4]; 2048],
-) -> Turn {
+) -> io::Result<Turn> {
     let mut files = [0u8; 65536];
     let mut lengths = [0u32; 70];
     let mut answers = [[0u64; 26]; 64];
@@ -766,6 +804,7 @@ fn batch_at(
     let documents = g.documents;
     let rows = rows_of(w[4]);
     let told = batch_told(
+        writer,
         &files[..bytes],
         &lengths[..documents],
         options_of([w[0], w[1], w[2]], w[3]),
@@ -773,8 +812,8 @@ fn batch_at(
         output,
         spans,
         &mut answers[..rows],
-    );
-    turned(told, next)
+    )?;
+    Ok(turned(told, next))
 }
 
 // ---- all lines
@@ -810,7 +849,8 @@ fn sort(c: u8, e: u8, g: u8) -> u8 {
     0
 }
 
-fn line_at(
+fn line_at<W: Write>(
+    writer: &mut W,
     input: &[u8],
     from: usize,
     s: State,
@@ -820,24 +860,25 @@ fn line_at(
     marks: &mut [[u32; 4]; 4096],
     output: &mut [u8; 32768],
     spans: &mut [[u64; 4]; 2048],
-) -> Turn {
+) -> io::Result<Turn> {
     let c = letter_at(input, from, 0);
     let e = letter_at(input, from, 2);
     let k = sort(c, e, letter_at(input, from, 3));
     if k == 0 {
-        return setting_at(input, from, c, e, s);
+        return setting_at(writer, input, from, c, e, s);
     }
     if k == 5 {
-        return turned(s, word_at(input, from, table));
+        return Ok(turned(s, word_at(input, from, table)));
     }
     if k == 6 {
-        return call_at(input, from, s, output, spans);
+        return call_at(writer, input, from, s, output, spans);
     }
     if k == 7 {
-        return batch_at(input, from, s, output, spans);
+        return batch_at(writer, input, from, s, output, spans);
     }
     if 2 < k {
         return removal_at(
+            writer,
             input,
             from,
             k == 4,
@@ -851,6 +892,7 @@ fn line_at(
         );
     }
     insertion_at(
+        writer,
         input,
         from,
         k == 2,
@@ -880,7 +922,7 @@ fn begun() -> State {
     held(h, bounds_of([0u64; 9], [0u64; 2]), 0, d, false)
 }
 
-fn all(input: &[u8]) {
+fn all<W: Write>(writer: &mut W, input: &[u8]) -> io::Result<()> {
     let mut table = [[0u64; 8]; 1024];
     let mut files = [0u8; 65536];
     let mut pages = [0u8; 65536];
@@ -892,9 +934,10 @@ fn all(input: &[u8]) {
     let mut k: usize = 0;
     while k < 4096 {
         if input.len() <= at {
-            return;
+            return Ok(());
         }
         let turn = line_at(
+            writer,
             input,
             at,
             s,
@@ -904,15 +947,17 @@ fn all(input: &[u8]) {
             &mut marks,
             &mut output,
             &mut spans,
-        );
+        )?;
         s = turn.state;
         at = turn.next;
         k += 1;
     }
+    Ok(())
 }
 
-fn main() {
+fn main(rt: HostRuntime) -> io::Result<()> {
     let mut input = [0u8; 65536];
-    let n = io::read_full(0, &mut input);
-    all(&input[..n]);
+    let (n, read) = read_full(&mut rt.stdin(), &mut input);
+    read?;
+    all(&mut rt.stdout(), &input[..n])
 }

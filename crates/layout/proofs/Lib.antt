@@ -1,0 +1,10 @@
+pub mod Covers
+pub mod Least
+pub mod Letter
+pub mod Members
+pub mod First
+pub mod Chosen
+pub mod Answers
+pub mod ChoiceLists
+pub mod Rows
+pub mod Report

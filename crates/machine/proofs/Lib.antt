@@ -1,0 +1,3 @@
+pub mod Enough
+pub mod Just
+pub mod Balance
