@@ -5,7 +5,8 @@
 
 A name that a file of specs/, or a lemma file of proofs/, gives with dashes gets underscores: `text-cost` is `text_cost`. So does a variable's
 name there, where the kit has no name of that spelling. A name that begins with a capital is a type or a fact, and its parts are joined:
-`Given-to` is `GivenTo`. They change in specs/, proofs/, the clauses of src/ and must-fail/; in comments only between backticks, and nowhere
+`Given-to` is `GivenTo`. A function's or lemma's name with capitals in it gets underscores too: `countsOf` is `counts_of`, and `getD` in a
+name is the library's `get_or`. They change in specs/, proofs/, the clauses of src/ and must-fail/; in comments only between backticks, and nowhere
 in strings. Functions of src/, exported names and what programs print stay.
 A name whose new spelling stands for something else is named in KEPT with what it becomes.
 """
@@ -15,10 +16,17 @@ import subprocess
 import sys
 
 # Names whose plain new spelling would fall together with another: what they become instead.
-KEPT = {}
+KEPT = {
+    "layoutsAfter": "read_layouts_after",
+    "nodeRight": "node_is_right",
+    "nodeRows": "read_node_rows",
+    "parentOf": "parent_from",
+    "textRows": "read_text_rows",
+}
 
 EDGE = r"\s(){}\[\],;.`\"«»"
 GIVEN = re.compile(r"^\s*(?:(?:abbrev|unfoldable|pub|axiom|infix\w*) )*([^" + EDGE + r":]*-[^" + EDGE + r":]*)\s*(?:\(.*\)|\{.*\}|\s)*:\s")
+HUMPED = re.compile(r"^\s*(?:(?:abbrev|unfoldable|pub) )*([a-z][a-z0-9_]*[A-Z][\w']*)\s*(?:\(.*\)|\{.*\}|\s)*:\s")
 TOKEN = re.compile(r"[^" + EDGE + r"]+")
 TYPE = re.compile(r"^\s*(?:pub )?(?:record|data|ruleset) (?:pub )?([^" + EDGE + r":]*-[^" + EDGE + r":]*)")
 
@@ -32,7 +40,7 @@ def files(top, *endings):
 
 
 def given(top):
-    """The names with dashes that files of specs/ and lemma files of proofs/ give."""
+    """The names with dashes, or capitals inside, that files of specs/ and lemma files of proofs/ give."""
     names = set()
     for path in files(top, ".antt"):
         parts = path.split(os.sep)
@@ -41,7 +49,7 @@ def given(top):
         for line in open(path, encoding="utf-8"):
             if line.startswith("use ") or line.lstrip().startswith("--"):
                 continue
-            for form in (GIVEN, TYPE):
+            for form in (GIVEN, TYPE, HUMPED):
                 found = form.match(line)
                 if found:
                     names.add(found.group(1))
@@ -78,7 +86,8 @@ def spelled(name):
     if name[0].isupper():
         head, *rest = name.split("-")
         return head + "".join(r[:1].upper() + r[1:] for r in rest)
-    return name.replace("-", "_")
+    name = name.replace("-", "_").replace("getD", "get_or")
+    return re.sub(r"(?<=[a-z0-9])[A-Z]", lambda m: "_" + m.group(0).lower(), name)
 
 
 def turned(text, whole, mark):
@@ -106,9 +115,12 @@ def main():
     fell = {}
     for name in sorted(names):
         fell.setdefault(spelled(name), []).append(name)
+    texts = [set(TOKEN.findall(open(path, encoding="utf-8").read())) for path in files(top, ".antt", ".rt") if not path.endswith("Proof.antt")]
     for new, old in fell.items():
+        if len(old) > 1 and any(sum(name in text for name in old) > 1 for text in texts):
+            sys.exit(f"respell: {' and '.join(old)} would both be {new}, and one file has both")
         if len(old) > 1:
-            sys.exit(f"respell: {' and '.join(old)} would both be {new}")
+            print(f"respell: {' and '.join(old)}, of different modules, are both {new}; no file has both")
     parts = sorted(names, key=lambda n: (-len(n), n))
     whole = re.compile(r"(?<![^" + EDGE + r"])(?:" + "|".join(map(re.escape, parts)) + r")(?![^" + EDGE + r"])")
     count = 0

@@ -1,4 +1,4 @@
-/* A prepared file's page, by the proved library libgannozhi.a (`rt staticlib gannozhi`), on x86-64.
+/* A prepared file's page, by the proved library libgannozhi.a (`cd crates/gannozhi && rt lib`), on x86-64.
  *
  * Every slice is a pointer and a number of items. A pointer is never null, also where there are no items, and is aligned for its items;
  * what is written overlaps nothing else. What lent memory holds at entry does not matter, but for the memory of a live report and the desks.

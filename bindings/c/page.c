@@ -1,7 +1,7 @@
 /* The page of a prepared file on standard output; its cost, the sizes that just suffice and its spans on standard error; or why there is none.
  *
- *     rt staticlib gannozhi
- *     cc -O2 -o page bindings/c/page.c target/staticlib/libgannozhi.a
+ *     (cd crates/gannozhi && rt lib)
+ *     cc -O2 -o page bindings/c/page.c crates/gannozhi/out/libgannozhi.a
  *     ./page 36 < samples/ticket.prepared */
 #include <ctype.h>
 #include <inttypes.h>

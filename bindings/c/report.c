@@ -1,8 +1,8 @@
 /* A live report: rows inserted and removed, one step after the other. After each step a line on standard error; at the end the page on standard
  * output and its spans on standard error. A step that is refused leaves the report as it was, and the next is taken.
  *
- *     rt staticlib gannozhi
- *     cc -O2 -o report bindings/c/report.c target/staticlib/libgannozhi.a
+ *     (cd crates/gannozhi && rt lib)
+ *     cc -O2 -o report bindings/c/report.c crates/gannozhi/out/libgannozhi.a
  *     ./report 36 1 0 1 +0 samples/ticket.prepared +0 samples/annotated.prepared -1 */
 #include <ctype.h>
 #include <inttypes.h>

@@ -1,8 +1,8 @@
 /* A shift's files in one go: up to 64 prepared files, and their pages on standard output, each with a newline behind it. For each file a line on
  * standard error, and its spans; a file that is refused does not hold up the next.
  *
- *     rt staticlib gannozhi
- *     cc -O2 -o shift bindings/c/shift.c target/staticlib/libgannozhi.a
+ *     (cd crates/gannozhi && rt lib)
+ *     cc -O2 -o shift bindings/c/shift.c crates/gannozhi/out/libgannozhi.a
  *     ./shift 36 1 0 1 samples/ticket.prepared samples/annotated.prepared */
 #include <ctype.h>
 #include <inttypes.h>

@@ -1,4 +1,4 @@
-//! Links libgannozhi.a, from GANNOZHI_LIB where that is set, else from where `rt staticlib gannozhi` writes it.
+//! Links libgannozhi.a, from GANNOZHI_LIB where that is set, else from where `rt lib` writes it in crates/gannozhi.
 
 use std::path::PathBuf;
 
@@ -6,12 +6,12 @@ fn main() {
     let own = PathBuf::from(std::env::var("CARGO_MANIFEST_DIR").expect("cargo sets it"));
     let folder = match std::env::var("GANNOZHI_LIB") {
         Ok(folder) => PathBuf::from(folder),
-        Err(_) => own.join("../../target/staticlib"),
+        Err(_) => own.join("../../crates/gannozhi/out"),
     };
     let library = folder.join("libgannozhi.a");
     if !library.is_file() {
         panic!(
-            "{} is not there: `rt staticlib gannozhi` writes it (or GANNOZHI_LIB says where it is)",
+            "{} is not there: `cd crates/gannozhi && rt lib` writes it (or GANNOZHI_LIB says where it is)",
             library.display()
         );
     }

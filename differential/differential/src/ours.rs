@@ -164,7 +164,7 @@ pub mod library {
 
     impl Library {
         pub fn new() -> Library {
-            let program = PathBuf::from(env!("CARGO_MANIFEST_DIR")).join("../../target/bin/page");
+            let program = PathBuf::from(env!("CARGO_MANIFEST_DIR")).join("../../crates/page/out/page");
             Library {
                 rng: Rng::new(1),
                 program: Some(program).filter(|program| program.is_file()),
