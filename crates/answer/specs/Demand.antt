@@ -14,7 +14,7 @@ use Rattle.machine_right.specs.Pruned.{Fair, fair_answer}
 use Rattle.machine_right.specs.FirstLeaf.{Used, used}
 use Rattle.machine_right.specs.PageSizes.{output_is, spans_are}
 use Rattle.file_form.specs.Form.{counts_of}
-use Rattle.prepare.specs.declared.read.Answer.TheVariants.{Accepted}
+use Rattle.std.specs.Prelude.{Ok}
 use Rattle.prepare.specs.File.{Means}
 use Rattle.answer.specs.Answer.{Settings, Ordered, rules_of, document_of, lent_as, Answers, out_of_order, wrong_file, laid_out}
 use Rattle.answer.specs.Ready.{means_ready}
@@ -42,7 +42,7 @@ module _ {lent wider : Type 0} {file : List ℕ} {c : Settings} {b d : Bounds} (
 -- how a page came about
 record LaidOut (lent : Type 0) (file : List ℕ) (c : Settings) (b : Bounds) (a : Answer) : Type 0 where
   pub ordered : Ordered lent c
-  pub means : Means file (Accepted (counts_of file))
+  pub means : Means file (Ok (counts_of file))
   pub is : answer (rules_of c) (document_of file) b ≡ a
 
 module _ {lent : Type 0} {file : List ℕ} {c : Settings} {b : Bounds} {r : Rendered} {k : Counts} where
@@ -52,7 +52,7 @@ module _ {lent : Type 0} {file : List ℕ} {c : Settings} {b : Bounds} {r : Rend
   laid_page (laid_out o m) e = record { ordered = o; means = m; is = e }
 
   -- a page is an accepted file's
-  pub accepted_page : Answers lent file c b (paged r k) → Means file (Accepted (counts_of file))
+  pub accepted_page : Answers lent file c b (paged r k) → Means file (Ok (counts_of file))
   accepted_page p = (laid_page p refl).means
 
   -- what is needed was lent

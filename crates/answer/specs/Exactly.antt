@@ -7,9 +7,8 @@ use Rattle.file_form.specs.declared.fill.Counts.{Counts}
 use Rattle.file_form.specs.Form.{form_fault, tables_of, counts_of}
 use Rattle.file_checks.specs.Judged.{Judged}
 use Rattle.file_checks.proofs.Exactly.{Verdict, verdict}
-use Rattle.prepare.specs.declared.read.Answer.{Answer as FileAnswer}
-use Rattle.prepare.specs.declared.read.Answer.TheVariants.{Accepted, Refused}
-use Rattle.prepare.specs.File.{Means, ill, wrong, right}
+use Rattle.std.specs.Prelude.{Ok, Err}
+use Rattle.prepare.specs.File.{Answer as FileAnswer, Means, ill, wrong, right}
 use Rattle.prepare.specs.Laws.{means_one}
 use Rattle.machine.specs.Events.{Bounds, no_counts}
 use Rattle.machine.specs.Answer.{Answer, refused}
@@ -19,8 +18,8 @@ use Rattle.answer.specs.Faults.{file_faults}
 -- ---- what a byte string means
 
 pub data Meaning (s : List ℕ) : Type 0 where
-  refused_by : (n : ℕ) → Means s (Refused n) → Meaning s
-  accepted_as : Means s (Accepted (counts_of s)) → Meaning s
+  refused_by : (n : ℕ) → Means s (Err n) → Meaning s
+  accepted_as : Means s (Ok (counts_of s)) → Meaning s
 
 pub meaning : (s : List ℕ) → Meaning s
 meaning s = by_cases (ℕ_discrete (form_fault s) 0) (λ f. judged f (verdict (tables_of s))) (λ ne. refused_by (form_fault s) (ill ne))
@@ -34,14 +33,14 @@ meaning s = by_cases (ℕ_discrete (form_fault s) 0) (λ f. judged f (verdict (t
 -- ---- what a call answers
 
 number_of : FileAnswer → ℕ
-number_of (Accepted n) = 0
-number_of (Refused n) = n
+number_of (Ok n) = 0
+number_of (Err n) = n
 
-refused_one : {s : List ℕ} {n m : ℕ} → Means s (Refused n) → Means s (Refused m) → n ≡ m
+refused_one : {s : List ℕ} {n m : ℕ} → Means s (Err n) → Means s (Err m) → n ≡ m
 unfolding number_of
 refused_one a e = ap number_of (means_one a e)
 
-not_both : {s : List ℕ} {n : ℕ} {k : Counts} → Means s (Refused n) → Means s (Accepted k) → ⊥
+not_both : {s : List ℕ} {n : ℕ} {k : Counts} → Means s (Err n) → Means s (Ok k) → ⊥
 unfolding number_of
 not_both a e = let z = ap number_of (means_one a e) in omega (arith, z, (file_faults a).0)
 

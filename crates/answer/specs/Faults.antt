@@ -12,7 +12,7 @@ use Rattle.file_form.specs.Numbers.{after_numbers, surplus}
 use Rattle.file_form.specs.Texts.{totalled, span_at, t_map, t_width, t_length, t_end, after_texts}
 use Rattle.file_form.specs.Form.{f_nodes, f_edges, f_choices, f_texts, f_end, form_fault}
 use Rattle.file_checks.specs.Judged.{Judged, reference, text, space, circle, list, accepted}
-use Rattle.prepare.specs.declared.read.Answer.TheVariants.{Refused}
+use Rattle.std.specs.Prelude.{Err}
 use Rattle.prepare.specs.File.{Means, ill, wrong}
 
 -- no refusal, or one of 2 to 5
@@ -147,6 +147,6 @@ judged_faults (circle a b c d) ne = (omega arith, omega arith)
 judged_faults (list a b c d e) ne = (omega arith, omega arith)
 judged_faults (accepted a) ne = absurd (ne refl)
 
-pub file_faults : {s : List ℕ} {n : ℕ} → Means s (Refused n) → (2 ≤ n) × (n ≤ 10)
+pub file_faults : {s : List ℕ} {n : ℕ} → Means s (Err n) → (2 ≤ n) × (n ≤ 10)
 file_faults {s} (ill ne) = let h = form_faults s ne in (h.0, omega (arith, h.1))
 file_faults (wrong n f ne j) = let h = judged_faults j ne in (omega (arith, h.0), h.1)

@@ -19,7 +19,7 @@ use Rattle.file_form.specs.declared.fill.Counts.{Counts as FileCounts}
 use Rattle.file_form.specs.Form.{tables_of}
 use Rattle.file_encode.specs.Fields.{Bytes}
 use Rattle.file_checks.specs.Texts.{TextsOk}
-use Rattle.prepare.specs.declared.read.Answer.TheVariants.{Accepted}
+use Rattle.std.specs.Prelude.{Ok}
 use Rattle.prepare.specs.File.{Means, right}
 use Rattle.machine_input.specs.Reading.{word_of_row}
 use Rattle.machine.specs.Events.{Bounds, Counts}
@@ -106,7 +106,7 @@ pub record PageFile (file : List ℕ) : Type 0 where
   texts : TextsOk (tables_of file).texts (tables_of file).bytes
   ranked : Ranked (document_of file).table
 
-accepted_file : (file : List ℕ) → Bytes file → {n : FileCounts} → Means file (Accepted n) → PageFile file
+accepted_file : (file : List ℕ) → Bytes file → {n : FileCounts} → Means file (Ok n) → PageFile file
 accepted_file file z (right f j) = record { texts = (judged_accepted j).texts; ranked = (file_ready file z f j).ranked }
 
 pub file_of_page : {lent : Type 0} {file : List ℕ} {c : Settings} {b : Bounds} {a : Answer} (r : Rendered) (k : Counts) → Bytes file → Answers lent file c b a → a ≡ paged r k → PageFile file
@@ -122,5 +122,5 @@ rules_page_utf8 file c r y p =
     subst Utf8 (sym p.bytes_are) (page_of f.cheapest.allowed w)
 
 -- the rule's page of an accepted file
-pub filed_utf8 : {file : List ℕ} {c : Settings} {r : Rendered} {n : FileCounts} → Bytes file → Means file (Accepted n) → RulesPage file c r → Utf8 r.bytes
+pub filed_utf8 : {file : List ℕ} {c : Settings} {r : Rendered} {n : FileCounts} → Bytes file → Means file (Ok n) → RulesPage file c r → Utf8 r.bytes
 filed_utf8 {file} {c} {r} z m p = rules_page_utf8 file c r (accepted_file file z m) p

@@ -26,7 +26,7 @@ use Rattle.file_checks.specs.Descent.{Ranked as RowsRanked}
 use Rattle.file_checks.specs.Choice.{Replaced, here, later, Comes, as_it_is, step}
 use Rattle.file_checks.specs.Judged.{Judged, accepted, Accepted}
 use Rattle.file_checks.proofs.Rank.{accepted_closed, accepted_ranked}
-use Rattle.prepare.specs.declared.read.Answer.TheVariants.{Accepted as AcceptedAs}
+use Rattle.std.specs.Prelude.{Ok}
 use Rattle.prepare.specs.File.{Means, right}
 use Rattle.layout.specs.Table.{Node, Table, Choice}
 use Rattle.layout.specs.References.{flat_of, refers, RightList, two, more}
@@ -249,5 +249,5 @@ module _ (s : List ℕ) (z : Bytes s) (f : form_fault s ≡ 0) where
   pub file_ready : Judged (tables_of s) 0 → Ready (prepared (tables_of s))
   file_ready j = accepted_ready (tables_of s) (judged_accepted j) file_kinds
 
-pub means_ready : (s : List ℕ) → Bytes s → {n : Counts} → Means s (AcceptedAs n) → Ready (prepared (tables_of s))
+pub means_ready : (s : List ℕ) → Bytes s → {n : Counts} → Means s (Ok n) → Ready (prepared (tables_of s))
 means_ready s z (right f j) = file_ready s z f j

@@ -20,27 +20,27 @@ const RIGHT: u64 = 12;
 const HEIGHT: u64 = 13;
 
 // Field k of slot s.
+#[tactic(auto, unfolding(crate::specs::Mem::word))]
 pub fn get(frontier: &[u64], s: u64, k: u64) -> u64
     requires { (At frontier.now s) × (k < 14) }
     ensures { result ≡ word frontier.now s k }
 {
-    let i = (s * 14 + k) as usize;
-    frontier[i]
+    frontier[(s * 14 + k) as usize]
 }
 
 // Puts x into field k of slot s.
+#[tactic(auto, unfolding(crate::specs::Mem::put))]
 pub fn store(frontier: &mut [u64], s: u64, k: u64, x: u64)
     requires { (At frontier.old s) × (k < 14) }
     ensures { frontier.new ≡ put frontier.old s k x }
 {
-    let i = (s * 14 + k) as usize;
-    frontier[i] = x;
+    frontier[(s * 14 + k) as usize] = x;
 }
 
 pub fn larger(a: u64, b: u64) -> u64
     ensures { result ≡ max a b }
 {
-    if a < b { b } else { a }
+    a.max(b)
 }
 
 // The height of the tree at the link p.
@@ -49,12 +49,14 @@ fn height(frontier: &[u64], p: u64) -> u64
     ensures { (h : Held frontier.now p) → result ≡ ht h.tree }
 {
     if p == NIL {
-        return 0;
+        0
+    } else {
+        get(frontier, p, HEIGHT)
     }
-    get(frontier, p, HEIGHT)
 }
 
-// The height of the tree at the left link of slot s, and at the right one.
+// The height of the tree at the left link of slot s, and at the right one. What is done on the left and on the right stays two functions, here and below:
+// each one's contract names its side's trees (p.l, rot_l), and one function for both would have to choose between the two contracts.
 fn high_left(frontier: &[u64], s: u64) -> u64
     requires { Spot frontier.now s }
     ensures { (p : Spot frontier.now s) → (result ≡ ht p.l) × (result < top) }
@@ -74,9 +76,7 @@ fn update_height(frontier: &mut [u64], s: u64)
     requires { Spot frontier.old s }
     ensures { (p : Spot frontier.old s) → Made frontier.old frontier.new s (node p.l s p.k p.r) p.k (suc p.k) }
 {
-    let a = high_left(frontier, s);
-    let b = high_right(frontier, s);
-    let h = larger(a, b) + 1;
+    let h = larger(high_left(frontier, s), high_right(frontier, s)) + 1;
     store(frontier, s, HEIGHT, h);
 }
 
@@ -114,9 +114,7 @@ fn tilt_left(frontier: &mut [u64], s: u64)
     ensures { (p : SpotL frontier.old s) → Laid frontier.old frontier.new s (tilt_l p.l) p.k p.r p.lo p.hi }
 {
     let x = get(frontier, s, LEFT);
-    let a = high_left(frontier, x);
-    let b = high_right(frontier, x);
-    if a < b {
+    if high_left(frontier, x) < high_right(frontier, x) {
         let t = rotate_left(frontier, x);
         store(frontier, s, LEFT, t);
     }
@@ -128,9 +126,7 @@ fn tilt_right(frontier: &mut [u64], s: u64)
     ensures { (p : SpotR frontier.old s) → Laid frontier.old frontier.new s p.l p.k (tilt_r p.r) p.lo p.hi }
 {
     let x = get(frontier, s, RIGHT);
-    let a = high_left(frontier, x);
-    let b = high_right(frontier, x);
-    if b < a {
+    if high_right(frontier, x) < high_left(frontier, x) {
         let t = rotate_right(frontier, x);
         store(frontier, s, RIGHT, t);
     }
@@ -147,13 +143,13 @@ fn rebalance(frontier: &mut [u64], s: u64) -> u64
     let balance = (l as i64) - (r as i64);
     if balance > 1 {
         tilt_left(frontier, s);
-        return rotate_right(frontier, s);
-    }
-    if balance < -1 {
+        rotate_right(frontier, s)
+    } else if balance < -1 {
         tilt_right(frontier, s);
-        return rotate_left(frontier, s);
+        rotate_left(frontier, s)
+    } else {
+        s
     }
-    s
 }
 
 // Hangs the tree at child to the left of slot s, and puts s in order. Returns the slot that is then on top.
@@ -179,43 +175,44 @@ pub fn insert(frontier: &mut [u64], root: u64, s: u64) -> u64
     ensures { (p : Room frontier.old root s) → Made frontier.old frontier.new result (ins s p.k p.t) p.lo p.hi }
 {
     if root == NIL {
-        return s;
-    }
-    let here = get(frontier, root, KEY);
-    let new = get(frontier, s, KEY);
-    if new < here {
+        s
+    } else if get(frontier, s, KEY) < get(frontier, root, KEY) {
         let l = get(frontier, root, LEFT);
         let child = insert(frontier, l, s);
-        return graft_left(frontier, root, child);
+        graft_left(frontier, root, child)
+    } else {
+        let r = get(frontier, root, RIGHT);
+        let child = insert(frontier, r, s);
+        graft_right(frontier, root, child)
     }
-    let r = get(frontier, root, RIGHT);
-    let child = insert(frontier, r, s);
-    graft_right(frontier, root, child)
 }
 
-// What a tree is without its least slot, and that slot.
+// What a tree is without a slot, and that slot.
 #[derive(Clone, Copy)]
-struct Detached {
-    rest: u64,
-    least: u64,
+pub struct Removed {
+    pub root: u64,
+    pub slot: u64,
 }
 
 // Takes the least slot out of the tree at root.
-fn detach_min(frontier: &mut [u64], root: u64) -> Detached
+fn detach_min(frontier: &mut [u64], root: u64) -> Removed
     requires { Full frontier.old root }
-    ensures { (p : Full frontier.old root) → Cut frontier.old frontier.new result.rest result.least p.t p.lo p.hi }
+    ensures { (p : Full frontier.old root) → Cut frontier.old frontier.new result.root result.slot p.t p.lo p.hi }
 {
     let left = get(frontier, root, LEFT);
     if left == NIL {
         let rest = get(frontier, root, RIGHT);
         store(frontier, root, RIGHT, NIL);
-        return Detached { rest, least: root };
+        return Removed {
+            root: rest,
+            slot: root,
+        };
     }
     let d = detach_min(frontier, left);
-    let rest = d.rest;
-    let least = d.least;
-    let top = graft_left(frontier, root, rest);
-    Detached { rest: top, least }
+    Removed {
+        root: graft_left(frontier, root, d.root),
+        ..d
+    }
 }
 
 // Makes one tree of two, the columns of the first below those of the second.
@@ -230,10 +227,8 @@ fn unite(frontier: &mut [u64], l: u64, r: u64) -> u64
         return l;
     }
     let d = detach_min(frontier, r);
-    let rest = d.rest;
-    let least = d.least;
-    store(frontier, least, LEFT, l);
-    graft_right(frontier, least, rest)
+    store(frontier, d.slot, LEFT, l);
+    graft_right(frontier, d.slot, d.root)
 }
 
 // Makes slot s a tree of its own.
@@ -246,13 +241,6 @@ pub fn clear(frontier: &mut [u64], s: u64)
     store(frontier, s, HEIGHT, 1);
 }
 
-// What a tree is without a slot, and that slot.
-#[derive(Clone, Copy)]
-pub struct Removed {
-    pub root: u64,
-    pub slot: u64,
-}
-
 // Takes the slot of the column out of the tree at root.
 pub fn remove(frontier: &mut [u64], root: u64, column: u64) -> Removed
     requires { Has frontier.old root column }
@@ -263,41 +251,31 @@ pub fn remove(frontier: &mut [u64], root: u64, column: u64) -> Removed
     let r = get(frontier, root, RIGHT);
     if column < here {
         let d = remove(frontier, l, column);
-        let rest = d.root;
-        let slot = d.slot;
-        let top = graft_left(frontier, root, rest);
-        return Removed { root: top, slot };
-    }
-    if here < column {
+        Removed {
+            root: graft_left(frontier, root, d.root),
+            ..d
+        }
+    } else if here < column {
         let d = remove(frontier, r, column);
-        let rest = d.root;
-        let slot = d.slot;
-        let top = graft_right(frontier, root, rest);
-        return Removed { root: top, slot };
-    }
-    clear(frontier, root);
-    let top = unite(frontier, l, r);
-    Removed {
-        root: top,
-        slot: root,
+        Removed {
+            root: graft_right(frontier, root, d.root),
+            ..d
+        }
+    } else {
+        clear(frontier, root);
+        Removed {
+            root: unite(frontier, l, r),
+            slot: root,
+        }
     }
 }
 
-// A link as an answer: a slot, or none.
-#[derive(Clone, Copy)]
-pub enum Link {
-    Nothing,
-    Slot(u64),
-}
-
-// The link that a word stores.
-pub fn linked(x: u64) -> Link
+// The link that a word stores: a slot, or none.
+#[tactic(auto, unfolding(crate::specs::Links::link_of))]
+pub fn linked(x: u64) -> Option<u64>
     ensures { result ≡ link_of x }
 {
-    if x == NIL {
-        return Link::Nothing;
-    }
-    Link::Slot(x)
+    if x == NIL { None } else { Some(x) }
 }
 
 // The words of a search, NIL for none: the slot of the column; of the last lower column on the way there, which is the nearest where the
@@ -316,6 +294,7 @@ pub fn search(frontier: &[u64], root: u64, column: u64) -> Way
     let mut current = root;
     let mut before = NIL;
     let mut from = NIL;
+    // A while loop: it goes down the tree by its links, so there is no range to go over.
     while current != NIL {
         let here = get(frontier, current, KEY);
         if column < here {

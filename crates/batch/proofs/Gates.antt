@@ -2,19 +2,16 @@
 use mathlib.Core.Path.{◌≡◌, refl, sym, subst}
 use mathlib.Core.Bool.{Bool}
 use mathlib.Core.List.{List}
-use Prim.Native.Nat.{ℕ, zero, suc, ◌+◌, ◌-◌, ◌≤◌, ◌<◌}
+use Prim.Native.Nat.{ℕ, ◌+◌, ◌-◌, ◌≤◌, ◌<◌}
 use native.Mathlib.Omega.{arith}
 use lib.ListN.{length, get_or, take}
-use lib.Seq.{take-length}
 use Rattle.file_checks.specs.Told.{Told}
-use Rattle.stats.specs.Counts.{none_counted}
-use Rattle.desks.specs.declared.SharedRecord.{SharedRecord}
 use Rattle.desks.specs.Desks.{gate_number}
 use Rattle.desks.specs.Calls.{DeskGate, opens, order, desk}
 use Rattle.desks.proofs.Calling.{gated, opened}
 use Rattle.batch.specs.Documents.{total, most_documents}
 use Rattle.batch.specs.Cuts.{total_suc, total_part}
-use Rattle.batch.specs.Batched.{turned_away, BatchGate, opens as tries, order as unordered, desk as no_desk, many}
+use Rattle.batch.specs.Batched.{BatchGate, opens as tries, order as unordered, desk as no_desk, many}
 
 -- the lengths up to a document, and what is left behind them
 pub past_files : (l : List ℕ) (i left bytes : ℕ) → i < length l → total (take i l) + left ≡ bytes → left < get_or l i 0 → total l ≤ bytes → ⊥
@@ -22,9 +19,6 @@ past_files l i left bytes h e n t = omega (arith, e, n, t, total_suc l i h, tota
 
 pub one_fits : (l : List ℕ) (i left bytes n : ℕ) → i < length l → total (take i l) + left ≡ bytes → n ≡ get_or l i 0 → n ≤ left → total (take (i + 1) l) + (left - n) ≡ bytes
 one_fits l i left bytes n h e m f = omega (arith, e, m, f, total_suc l i h)
-
-pub all_fit : (l : List ℕ) (i left bytes : ℕ) → length l ≤ i → i ≤ length l → total (take i l) + left ≡ bytes → total l ≤ bytes
-all_fit l i left bytes h g e = let z : i ≡ length l = omega (arith, h, g) in let w : total (take i l) ≡ total l = rw (z, take-length l) refl in omega (arith, e, w)
 
 -- ---- the gate
 
@@ -43,13 +37,3 @@ module _ {lent : Type 0} {d documents : ℕ} {t : Bool} (told : Told lent t) whe
 
     pub may_be_tried : documents ≤ most_documents → BatchGate lent d documents 0
     may_be_tried h = let w = opened z (subst (λ (n : ℕ). DeskGate lent d n) (sym e) (gated t d told)) in tries w.0 w.1 h
-
--- ---- the record of a refused batch
-
-pub no_documents : (n : ℕ) (s : SharedRecord) → n ≡ 0 → turned_away n s ≡ s
-no_documents zero s e = refl
-no_documents (suc n) s e = absurd (omega (arith, e))
-
-pub some_documents : (n : ℕ) (s : SharedRecord) → (n ≡ 0 → ⊥) → turned_away n s ≡ record { stats = none_counted; desks = s.desks }
-some_documents zero s e = absurd (e refl)
-some_documents (suc n) s e = refl

@@ -1,5 +1,5 @@
 -- A reader finds after a batch what specs/Pages.antt says.
-use Rattle.std.specs.Prelude.{◌≡◌, refl, List, [], ◌∷◌, ◌++◌, map, ℕ, ◌+◌, ◌-◌, ◌≤◌, ◌<◌, length, get_or, take, drop}
+use Rattle.std.specs.Prelude.{◌≡◌, Ok, Err, refl, List, [], ◌∷◌, ◌++◌, map, ℕ, ◌+◌, ◌-◌, ◌≤◌, ◌<◌, length, get_or, take, drop}
 use Rattle.std.proofs.Common.{sym, ap, subst, ◌∙◌, arith, length-set, length-take-le, take-take, take_at, drop_at, drop-drop, get_or-set_same, get_or-set_other, drop-set-lt}
 use Rattle.std.proofs.lemmas.List.{length-map}
 use Rattle.machine.specs.Events.{Bounds as Limits}
@@ -9,11 +9,9 @@ use Rattle.solve_workspace.specs.declared.Bounds.{Bounds}
 use Rattle.solve_workspace.specs.declared.RenderOptions.{RenderOptions}
 use Rattle.solve_workspace.specs.Meets.{limits}
 use Rattle.materialize.specs.Rows.{Row}
-use Rattle.render.specs.declared.page.Rendered.{Rendered}
-use Rattle.render.specs.declared.page.Rendered.TheVariants.{Page, Refused}
 use Rattle.render.specs.declared.order.Lengths.{Lengths}
 use Rattle.render.specs.Order.{InOrder}
-use Rattle.render.specs.Rendered.{meant, page_length, span_count, Front}
+use Rattle.render.specs.Rendered.{Rendered, meant, page_length, span_count, Front}
 use Rattle.render.specs.Call.{settings}
 use Rattle.layout.specs.SpanWords.{span_of}
 use Rattle.report.specs.Lists.{drop_take}
@@ -80,17 +78,17 @@ part_kept k n was out last h e =
     sym (drop_take k n last) ∙ ap (λ (x : List _). drop k x) e ∙ drop_take k n (take k was ++ out) ∙ ap (λ (x : List _). take n x) (drop_at (take k was) out k (length-take-le k was h))
 
 meant_kept : (a : Rendered) (out x : List ℕ) (rows y : List Row) → take (page_length a) x ≡ take (page_length a) out → take (span_count a) y ≡ take (span_count a) rows → meant a out rows ≡ meant a x y
-meant_kept (Page c n m k q) out x rows y e f = rw (e, f) refl
-meant_kept (Refused n f k) out x rows y e g = refl
+meant_kept (Ok p) out x rows y e f = rw (e, f) refl
+meant_kept (Err z) out x rows y e g = refl
 
 -- ---- what a page leaves of the sizes
 
 left_is : (b : Bounds) (x y : ℕ) (a : Rendered) (out : List ℕ) (rows : List Row) → page_length a ≤ length out → span_count a ≤ length rows → limits (rest b (x + page_length a) (y + span_count a)) ≡ left_by (meant a out rows) (limits (rest b x y))
-left_is b x y (Page c n m k q) out rows h g =
-    let e : b.output - (x + n) ≡ b.output - x - length (take n out) = omega (arith, length-take-le n out h) in
-    let f : b.spans - (y + m) ≡ b.spans - y - length (map span_of (take m rows)) = omega (arith, length-map (take m rows) span_of, length-take-le m rows g) in
+left_is b x y (Ok p) out rows h g =
+    let e : b.output - (x + p.length) ≡ b.output - x - length (take p.length out) = omega (arith, length-take-le p.length out h) in
+    let f : b.spans - (y + p.spans) ≡ b.spans - y - length (map span_of (take p.spans rows)) = omega (arith, length-map (take p.spans rows) span_of, length-take-le p.spans rows g) in
     rw (e, f) refl
-left_is b x y (Refused n f k) out rows h g =
+left_is b x y (Err z) out rows h g =
     let e : x + 0 ≡ x = omega arith in
     let i : y + 0 ≡ y = omega arith in
     rw (e, i) refl

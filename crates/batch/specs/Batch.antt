@@ -3,9 +3,8 @@ use Rattle.std.specs.Prelude.{◌≡◌, List, [], ◌∷◌, ◌++◌, ℕ, ◌
 use Rattle.solve_workspace.specs.declared.Bounds.{Bounds}
 use Rattle.solve_workspace.specs.declared.RenderOptions.{RenderOptions}
 use Rattle.materialize.specs.Rows.{Row}
-use Rattle.render.specs.declared.page.Rendered.{Rendered}
 use Rattle.render.specs.declared.order.Lengths.{Lengths}
-use Rattle.render.specs.Rendered.{page_length, span_count, counts_of}
+use Rattle.render.specs.Rendered.{Rendered, page_length, span_count, counts_of}
 use Rattle.desks.specs.declared.SharedRecord.{SharedRecord}
 use Rattle.desks.specs.Lent.{settled}
 use Rattle.desks.specs.Calls.{DeskRendering}

@@ -1,9 +1,8 @@
 -- Batches worked out: the smallest ones that tell the readings of document 02, change 9, apart (docs/DECISIONS.md). `A` is a file of one Text, `a`; `AB` one of `ab`; `N` one of an Empty node; `M` is Annotate 7 over `a`.
-use Rattle.std.specs.Prelude.{refl, List, [], ◌∷◌, ℕ, ◌+◌}
+use Rattle.std.specs.Prelude.{Err, refl, List, [], ◌∷◌, ℕ, ◌+◌}
 use Rattle.std.proofs.Math.Option.{none as no_parent}
 use Rattle.std.proofs.Common.{arith}
 use Rattle.file_tables.specs.Tables.{Tables, tables}
-use Rattle.prepare.specs.declared.read.Answer.TheVariants.{Refused}
 use Rattle.prepare.specs.File.{Means}
 use Rattle.machine.specs.Events.{Bounds, no_counts}
 use Rattle.machine.specs.Answer.{Answer, paged, refused}
@@ -54,7 +53,7 @@ unfolding bytes_of sound texted tried
 no_byte_left = first (served tt (omega arith) (worked a_tables refl refl refl refl refl)) (first (served tt (omega arith) (worked n_tables refl refl refl refl refl)) none)
 
 -- a document that the reader refuses, by whatever number: without counts; the work of `a` stays charged
-pub no_file : (file : List ℕ) (n : ℕ) → Means file (Refused n) → Shift 0 at_80 (lending 2 0) (two 10 0 0 0) (a_file ∷ file ∷ []) (a_page ∷ refused n 0 no_counts ∷ []) (lending 1 0) (two 10 2 0 0)
+pub no_file : (file : List ℕ) (n : ℕ) → Means file (Err n) → Shift 0 at_80 (lending 2 0) (two 10 0 0 0) (a_file ∷ file ∷ []) (a_page ∷ refused n 0 no_counts ∷ []) (lending 1 0) (two 10 2 0 0)
 unfolding bytes_of sound texted tried
 no_file file n m =
     first (served tt (omega arith) (worked a_tables refl refl refl refl refl))

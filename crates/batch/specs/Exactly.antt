@@ -1,5 +1,5 @@
 -- Each batch has one outcome: the number, the answers, the bytes, the spans and the record.
-use Rattle.std.specs.Prelude.{◌≡◌, refl, List, [], ◌++◌, map, ℕ, ◌+◌, ◌*◌, ◌≤◌, ◌<◌, ◌^◌, length, get_or, take, drop}
+use Rattle.std.specs.Prelude.{◌≡◌, Ok, Err, refl, List, [], ◌++◌, map, ℕ, ◌+◌, ◌*◌, ◌≤◌, ◌<◌, ◌^◌, length, get_or, take, drop}
 use Rattle.std.proofs.Common.{sym, ap, ap₂, subst, ◌∙◌, arith, length-take-le}
 use Rattle.std.proofs.lemmas.List.{map-append, length-map}
 use Rattle.cost.specs.Cost.{Cost}
@@ -16,11 +16,11 @@ use Rattle.solve_workspace.specs.declared.Needs.{Needs}
 use Rattle.solve_workspace.specs.declared.RenderOptions.{RenderOptions}
 use Rattle.solve_workspace.specs.Meets.{limits, tally, needs_told}
 use Rattle.materialize.specs.Rows.{Row}
-use Rattle.render.specs.declared.page.Rendered.{Rendered}
-use Rattle.render.specs.declared.page.Rendered.TheVariants.{Page, Refused}
 use Rattle.render.specs.declared.order.Lengths.{Lengths}
 use Rattle.render.specs.Order.{InOrder}
-use Rattle.render.specs.Rendered.{meant, counts_of, page_length, span_count, Front}
+use Rattle.render.specs.declared.page.Page.{Page}
+use Rattle.render.specs.declared.page.Refusal.{Refusal}
+use Rattle.render.specs.Rendered.{Rendered, page_with, refusal_with, meant, counts_of, page_length, span_count, Front}
 use Rattle.render.specs.Call.{settings}
 use Rattle.report.specs.Lists.{map_take, map_drop}
 use Rattle.desks.specs.Desks.{charged}
@@ -77,24 +77,26 @@ record Shown (a : Rendered) (out : List ℕ) (rows : List Row) : Type 0 where
   pub no_fit_checks : (counts_of a).fit_checks ≡ 0
 
 told_same : (a z : Rendered) {out out' : List ℕ} {rows rows' : List Row} → Shown a out rows → Shown z out' rows' → meant a out rows ≡ meant z out' rows' → a ≡ z
-told_same (Page c n m k q) (Page e i j g r) {out} {out'} {rows} {rows'} x y t =
-    let page : ◌≡◌ {A = Laid} (record { bytes = take n out; spans = map span_of (take m rows); cost = value c }) (record { bytes = take i out'; spans = map span_of (take j rows'); cost = value e }) = cc in
-    let tallied : with_needs (tally k) (needs_told q) ≡ with_needs (tally g) (needs_told r) = cc in
-    let f : n ≡ i = omega (arith, ap (λ (p : Laid). length p.bytes) page, length-take-le n out x.bytes_in, length-take-le i out' y.bytes_in) in
-    let h : m ≡ j
-    = omega (arith, ap (λ (p : Laid). length p.spans) page, length-map (take m rows) span_of, length-map (take j rows') span_of, length-take-le m rows x.spans_in, length-take-le j rows' y.spans_in) in
-    let u : c ≡ e = cost_same c e x.low_word y.low_word (ap (λ (p : Laid). p.cost) page) in
-    let v : k ≡ g = stats_same k g x.no_fit_checks y.no_fit_checks (ap bare tallied) in
-    let w : q ≡ r = needs_same q r (ap (λ (b : Counts). b.needs) tallied) in
-    rw (f, h, u, v, w) refl
-told_same (Page c n m k q) (Refused i g j) x y t = let z : ◌≡◌ {A = ℕ} 0 1 = cc in absurd (omega arith)
-told_same (Refused n f k) (Page e i j g r) x y t = let z : ◌≡◌ {A = ℕ} 0 1 = cc in absurd (omega arith)
-told_same (Refused n f k) (Refused i g j) x y t =
-    let a : n ≡ i = cc in
-    let b : f ≡ g = cc in
-    let c : tally k ≡ tally j = cc in
-    let v : k ≡ j = stats_same k j x.no_fit_checks y.no_fit_checks c in
-    rw (a, b, v) refl
+told_same (Ok p) (Ok o) {out} {out'} {rows} {rows'} x y t =
+    let page : ◌≡◌ {A = Laid} (record { bytes = take p.length out; spans = map span_of (take p.spans rows); cost = value p.cost }) (record { bytes = take o.length out'; spans = map span_of (take o.spans rows'); cost = value o.cost }) = cc in
+    let tallied : with_needs (tally p.stats) (needs_told p.needs) ≡ with_needs (tally o.stats) (needs_told o.needs) = cc in
+    let f : p.length ≡ o.length = omega (arith, ap (λ (l : Laid). length l.bytes) page, length-take-le p.length out x.bytes_in, length-take-le o.length out' y.bytes_in) in
+    let h : p.spans ≡ o.spans
+    = omega (arith, ap (λ (l : Laid). length l.spans) page, length-map (take p.spans rows) span_of, length-map (take o.spans rows') span_of, length-take-le p.spans rows x.spans_in, length-take-le o.spans rows' y.spans_in) in
+    let u : p.cost ≡ o.cost = cost_same p.cost o.cost x.low_word y.low_word (ap (λ (l : Laid). l.cost) page) in
+    let v : p.stats ≡ o.stats = stats_same p.stats o.stats x.no_fit_checks y.no_fit_checks (ap bare tallied) in
+    let w : p.needs ≡ o.needs = needs_same p.needs o.needs (ap (λ (b : Counts). b.needs) tallied) in
+    let same : page_with p.cost p.length p.spans p.stats p.needs ≡ page_with o.cost o.length o.spans o.stats o.needs = rw (f, h, u, v, w) refl in
+    ap (λ (z : Page). Ok z) same
+told_same (Ok p) (Err e) x y t = absurd (cc)
+told_same (Err e) (Ok p) x y t = absurd (cc)
+told_same (Err e) (Err i) x y t =
+    let a : e.number ≡ i.number = cc in
+    let b : e.needed ≡ i.needed = cc in
+    let c : tally e.stats ≡ tally i.stats = cc in
+    let v : e.stats ≡ i.stats = stats_same e.stats i.stats x.no_fit_checks y.no_fit_checks c in
+    let same : refusal_with e.number e.needed e.stats ≡ refusal_with i.number i.needed i.stats = rw (a, b, v) refl in
+    ap (λ (z : Refusal). Err z) same
 
 -- ---- the same batch: spans are read off their rows
 
@@ -113,10 +115,10 @@ front_same n was is was' is' e t f g = f.past ∙ ap₂ (λ (x y : List _). x ++
 
 page_same : (a : Rendered) (out out' : List ℕ) (rows rows' : List Row) → meant a out rows ≡ meant a out' rows'
     → (take (page_length a) out ≡ take (page_length a) out') × (map span_of (take (span_count a) rows) ≡ map span_of (take (span_count a) rows'))
-page_same (Page c n m k q) out out' rows rows' t =
-    let page : ◌≡◌ {A = Laid} (record { bytes = take n out; spans = map span_of (take m rows); cost = value c }) (record { bytes = take n out'; spans = map span_of (take m rows'); cost = value c }) = cc in
-    (ap (λ (p : Laid). p.bytes) page, ap (λ (p : Laid). p.spans) page)
-page_same (Refused n f k) out out' rows rows' t = (refl, refl)
+page_same (Ok p) out out' rows rows' t =
+    let page : ◌≡◌ {A = Laid} (record { bytes = take p.length out; spans = map span_of (take p.spans rows); cost = value p.cost }) (record { bytes = take p.length out'; spans = map span_of (take p.spans rows'); cost = value p.cost }) = cc in
+    (ap (λ (l : Laid). l.bytes) page, ap (λ (l : Laid). l.spans) page)
+page_same (Err e) out out' rows rows' t = (refl, refl)
 
 rows_front : (m s : ℕ) (was is : List Row) → Front m (drop s was) is → map span_of is ≡ map span_of (take m is) ++ drop m (drop s (map span_of was))
 rows_front m s was is f =

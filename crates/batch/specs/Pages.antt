@@ -5,8 +5,7 @@ use Rattle.answer.specs.Page.{Promised}
 use Rattle.solve_workspace.specs.declared.Bounds.{Bounds}
 use Rattle.solve_workspace.specs.declared.RenderOptions.{RenderOptions}
 use Rattle.solve_workspace.specs.Meets.{limits}
-use Rattle.render.specs.declared.page.Rendered.{Rendered}
-use Rattle.render.specs.Rendered.{meant, page_length, span_count}
+use Rattle.render.specs.Rendered.{Rendered, meant, page_length, span_count}
 use Rattle.render.specs.Call.{settings}
 use Rattle.desks.specs.Served.{Kept}
 use Rattle.call_words.specs.Words.{words}

@@ -2,8 +2,7 @@
 use Rattle.std.specs.Prelude.{List, [], ℕ, zero, suc, ◌+◌, ◌<◌, ◌^◌, get_or}
 use Rattle.stats.specs.declared.SolveStats.{SolveStats}
 use Rattle.materialize.specs.Rows.{Row}
-use Rattle.render.specs.declared.page.Rendered.{Rendered}
-use Rattle.render.specs.Rendered.{page_length, span_count}
+use Rattle.render.specs.Rendered.{Rendered, page_length, span_count}
 use Rattle.desks.specs.declared.SharedRecord.{SharedRecord}
 use Rattle.desks.specs.Desks.{charged}
 use Rattle.desks.specs.Lent.{work_in}

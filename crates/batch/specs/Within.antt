@@ -1,5 +1,5 @@
 -- A document's page and spans have their place in what is free, so that a batch stays within its sizes; and what a document is lent is in order where the batch is.
-use Rattle.std.specs.Prelude.{◌≡◌, refl, List, ◌++◌, ℕ, ◌-◌, ◌≤◌, length, take, drop}
+use Rattle.std.specs.Prelude.{◌≡◌, Ok, Err, refl, List, ◌++◌, ℕ, ◌-◌, ◌≤◌, length, take, drop}
 use Rattle.std.proofs.Common.{sym, subst, arith, length-append, length-drop, length-take-le}
 use Rattle.std.proofs.lemmas.List.{length-map}
 use Rattle.layout.specs.SpanWords.{span_of}
@@ -9,11 +9,9 @@ use Rattle.solve_workspace.specs.declared.Bounds.{Bounds}
 use Rattle.solve_workspace.specs.declared.RenderOptions.{RenderOptions}
 use Rattle.solve_workspace.specs.Meets.{limits}
 use Rattle.materialize.specs.Rows.{Row}
-use Rattle.render.specs.declared.page.Rendered.{Rendered}
-use Rattle.render.specs.declared.page.Rendered.TheVariants.{Page, Refused}
 use Rattle.render.specs.declared.order.Lengths.{Lengths}
 use Rattle.render.specs.Order.{InOrder}
-use Rattle.render.specs.Rendered.{meant, page_length, span_count}
+use Rattle.render.specs.Rendered.{Rendered, meant, page_length, span_count}
 use Rattle.render.specs.Call.{settings}
 use Rattle.desks.specs.declared.Desks.{Desks}
 use Rattle.desks.specs.Desks.{last_desk, allowed}
@@ -26,16 +24,16 @@ use Rattle.batch.specs.Batch.{Batch, rest, rest_lent, next, One, Filed, none, mo
 
 module _ {d : ℕ} {D : Desks} {file : List ℕ} {o : RenderOptions} {b : Bounds} {l : Lengths} {out₀ out : List ℕ} {rows₀ rows : List Row} (lo : length out ≡ length out₀) (lr : length rows ≡ length rows₀) where
   pub page_within : (a : Rendered) → DeskRendering d D file o b l out₀ out rows₀ rows a → page_length a ≤ b.output
-  page_within (Refused n needed k) g = omega arith
-  page_within (Page c n m k q) g =
-      let e : length (take n out) ≡ n = length-take-le n out (omega (arith, lo, g.stands.output_is.within)) in
+  page_within (Err z) g = omega arith
+  page_within (Ok p) g =
+      let e : length (take p.length out) ≡ p.length = length-take-le p.length out (omega (arith, lo, g.stands.output_is.within)) in
       omega (arith, e, (needs_page (came g.right.serving.answers refl)).0, g.right.serving.needs_within _ _ refl output)
 
   pub spans_within : (a : Rendered) → DeskRendering d D file o b l out₀ out rows₀ rows a → span_count a ≤ b.spans
-  spans_within (Refused n needed k) g = omega arith
-  spans_within (Page c n m k q) g =
-      let e : length (take m rows) ≡ m = length-take-le m rows (omega (arith, lr, g.stands.rows_are.within)) in
-      omega (arith, e, length-map (take m rows) span_of, (needs_page (came g.right.serving.answers refl)).1, g.right.serving.needs_within _ _ refl spans_kind)
+  spans_within (Err z) g = omega arith
+  spans_within (Ok p) g =
+      let e : length (take p.spans rows) ≡ p.spans = length-take-le p.spans rows (omega (arith, lr, g.stands.rows_are.within)) in
+      omega (arith, e, length-map (take p.spans rows) span_of, (needs_page (came g.right.serving.answers refl)).1, g.right.serving.needs_within _ _ refl spans_kind)
 
 -- ---- a batch stays within its sizes
 

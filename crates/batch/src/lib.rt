@@ -42,14 +42,12 @@ fn lengths_fit(lengths: &[u32], bytes: usize) -> bool
     ensures { Told (total lengths.now ≤ bytes) result }
 {
     let mut left = bytes;
-    let mut i: usize = 0;
-    while i < lengths.len() {
-        let n = lengths[i] as usize;
+    for n in lengths {
+        let n = *n as usize;
         if left < n {
             return false;
         }
         left -= n;
-        i += 1;
     }
     true
 }
@@ -57,10 +55,7 @@ fn lengths_fit(lengths: &[u32], bytes: usize) -> bool
 fn answers_fit(documents: usize, answers: usize) -> bool
     ensures { Told (min documents most_documents ≤ answers) result }
 {
-    if 64 <= answers {
-        return true;
-    }
-    documents <= answers
+    64 <= answers || documents <= answers
 }
 
 fn batch_lent(
@@ -73,13 +68,7 @@ fn batch_lent(
 ) -> bool
     ensures { Told (BatchLent options b l files lengths.now answers) result }
 {
-    if !in_order(options, b, l) {
-        return false;
-    }
-    if !answers_fit(lengths.len(), answers) {
-        return false;
-    }
-    lengths_fit(lengths, files)
+    in_order(options, b, l) && answers_fit(lengths.len(), answers) && lengths_fit(lengths, files)
 }
 
 // 1, then 28, then 29 (more than 64 documents); 0 where each document is to be tried.
@@ -97,12 +86,12 @@ pub fn batch_gate(
     let lent = batch_lent(options, b, l, files, lengths, answers);
     let gate = desk_gate(lent, desk);
     if gate != 0 {
-        return gate;
+        gate
+    } else if 64 < lengths.len() {
+        29
+    } else {
+        0
     }
-    if 64 < lengths.len() {
-        return 29;
-    }
-    0
 }
 
 // A batch's own refusal. Its counts, 0, go into the record where there is a document.
@@ -111,11 +100,10 @@ pub fn turn_away(number: u32, documents: usize, shared: SharedRecord) -> FiledAl
 {
     let mut after = shared;
     if documents != 0 {
-        let none = SolveStats::ZERO;
-        after.stats = none;
+        after.stats = SolveStats::ZERO;
     }
     FiledAll {
-        number: number,
+        number,
         tried: 0,
         bytes: 0,
         spans: 0,
@@ -142,10 +130,11 @@ pub fn free(b: Bounds, p: Progress) -> Bounds
     requires { (p.bytes ≤ b.output) × (p.spans ≤ b.spans) }
     ensures { result ≡ rest b p.bytes p.spans }
 {
-    let mut c = b;
-    c.output = b.output - (p.bytes as u32);
-    c.spans = b.spans - (p.spans as u32);
-    c
+    Bounds {
+        output: b.output - p.bytes as u32,
+        spans: b.spans - p.spans as u32,
+        ..b
+    }
 }
 
 fn advanced(p: Progress, to: usize, bytes: usize, spans: usize, work: u64) -> Progress
@@ -167,22 +156,8 @@ pub fn go_on(p: Progress, to: usize, a: Rendered) -> Progress
     ensures { result ≡ gone_on p to a }
 {
     match a {
-        Rendered::Page {
-            cost: _,
-            length,
-            spans,
-            stats,
-            needs: _,
-        } => {
-            return advanced(p, to, length, spans, stats.work_items);
-        }
-        Rendered::Refused {
-            number: _,
-            needed: _,
-            stats: k,
-        } => {
-            return advanced(p, to, 0, 0, k.work_items);
-        }
+        Ok(page) => advanced(p, to, page.length, page.spans, page.stats.work_items),
+        Err(refusal) => advanced(p, to, 0, 0, refusal.stats.work_items),
     }
 }
 
@@ -202,18 +177,14 @@ pub fn done(desk: u32, shared: SharedRecord, p: Progress, answers: &[[u64; 26]])
     requires { (p.filed ≤ length answers.now) × (p.filed ≤ most_documents) × (p.work ≤ remaining shared.desks desk) }
     ensures { result ≡ ending desk shared p answers.now }
 {
-    let before = shared.stats;
-    let desks = shared.desks;
-    let stats = last_counts(before, p.filed, answers);
-    let after = charged(desks, desk, p.work);
     FiledAll {
         number: 0,
         tried: p.filed,
         bytes: p.bytes,
         spans: p.spans,
         shared: SharedRecord {
-            stats: stats,
-            desks: after,
+            stats: last_counts(shared.stats, p.filed, answers),
+            desks: charged(shared.desks, desk, p.work),
         },
     }
 }

@@ -1,7 +1,7 @@
 -- From document to document, and from the gate to the end.
 use mathlib.Core.Path.{◌≡◌, refl, sym, subst}
 use mathlib.Core.List.{List}
-use Prim.Native.Nat.{ℕ, ◌≤◌, ◌<◌, ◌^◌}
+use Prim.Native.Nat.{ℕ, ◌+◌, ◌≤◌, ◌<◌, ◌^◌}
 use native.Mathlib.Omega.{arith}
 use lib.ListN.{length, get_or}
 use Rattle.solve_workspace.specs.declared.Bounds.{Bounds}
@@ -45,26 +45,25 @@ alike a b c d e f g h j k n o p q r s t =
     }
 
 module _ {d : ℕ} {D : Desks} {o : RenderOptions} {b : Bounds} {l : Lengths} {files lengths output₀ : List ℕ} {rows₀ answers₀ : List Row} where
-  pub at_first : {p : Progress} → p ≡ beginning → Ready d D b files lengths beginning output₀ rows₀ answers₀ → Came d D o b l files lengths p.filed output₀ output₀ rows₀ rows₀ answers₀ answers₀ p
-  at_first e R = subst (λ (p : Progress). Came d D o b l files lengths p.filed output₀ output₀ rows₀ rows₀ answers₀ answers₀ p) (sym e) (record { filed = λ k. none; filed_is = refl; ready = R })
+  pub at_first : {p : Progress} → p ≡ beginning → Ready d D b files lengths beginning output₀ rows₀ answers₀ → Came d D o b l files lengths 0 output₀ output₀ rows₀ rows₀ answers₀ answers₀ p
+  at_first e R = rw e record { filed = λ k. none; filed_is = refl; ready = R }
 
   module _ {p : Progress} {output : List ℕ} {rows answers : List Row} where
-    pub one_more : {q : Progress} {output' : List ℕ} {rows' answers' : List Row} {m : Lengths} → m ≡ l → p.filed < length lengths → Came d D o b l files lengths p.filed output₀ output rows₀ rows answers₀ answers p
-        → Tried d D o b m files lengths p output output' rows rows' answers answers' q → Came d D o b l files lengths q.filed output₀ output' rows₀ rows' answers₀ answers' q
-    one_more {q} {output'} {rows'} {answers'} e h C T =
-        subst (λ (n : ℕ). Came d D o b l files lengths n output₀ output' rows₀ rows' answers₀ answers' q) (sym T.filed_is)
-        (record {
-          filed = λ k. subst (λ (f : List (List ℕ)). Filed d o b l f (held d (record { stats = k; desks = D }) beginning output₀ rows₀ answers₀) (held d (record { stats = k; desks = D }) q output' rows' answers'))
-              (sym (documents_suc files lengths p.filed h))
-              (more (C.filed k) (subst (λ (z : Lengths). One d o b z (document files lengths p.filed) (held d (record { stats = k; desks = D }) p output rows answers)
-              (held d (record { stats = k; desks = D }) q output' rows' answers')) e (T.one k)));
-          filed_is = T.filed_is;
-          ready = T.ready;
-        })
+    pub to_try : {n : ℕ} → n < length lengths → Came d D o b l files lengths n output₀ output rows₀ rows answers₀ answers p → Ready d D b files lengths p output rows answers × (p.filed < length lengths)
+    to_try h C = (C.ready, omega (arith, h, C.filed_is))
 
-    pub at_end : length lengths ≤ p.filed → p.filed ≤ length lengths → Came d D o b l files lengths p.filed output₀ output rows₀ rows answers₀ answers p
-        → Came d D o b l files lengths (length lengths) output₀ output rows₀ rows answers₀ answers p
-    at_end h g = let e : p.filed ≡ length lengths = omega (arith, h, g) in subst (λ (n : ℕ). Came d D o b l files lengths n output₀ output rows₀ rows answers₀ answers p) e
+    pub one_more : {q : Progress} {output' : List ℕ} {rows' answers' : List Row} {m : Lengths} {n : ℕ} → m ≡ l → n < length lengths → Came d D o b l files lengths n output₀ output rows₀ rows answers₀ answers p
+        → Tried d D o b m files lengths p output output' rows rows' answers answers' q → Came d D o b l files lengths (n + 1) output₀ output' rows₀ rows' answers₀ answers' q
+    one_more {q} {output'} {rows'} {answers'} {n = n} e h C T = record {
+      filed = λ k. subst (λ (f : List (List ℕ)). Filed d o b l f (held d (record { stats = k; desks = D }) beginning output₀ rows₀ answers₀) (held d (record { stats = k; desks = D }) q output' rows' answers'))
+          (sym (documents_suc files lengths n h))
+          (more (C.filed k) (subst (λ (i : ℕ). One d o b l (document files lengths i) (held d (record { stats = k; desks = D }) p output rows answers)
+          (held d (record { stats = k; desks = D }) q output' rows' answers')) C.filed_is
+          (subst (λ (z : Lengths). One d o b z (document files lengths p.filed) (held d (record { stats = k; desks = D }) p output rows answers)
+          (held d (record { stats = k; desks = D }) q output' rows' answers')) e (T.one k))));
+      filed_is = omega (arith, T.filed_is, C.filed_is);
+      ready = T.ready;
+    }
 
     pub may_end : Came d D o b l files lengths (length lengths) output₀ output rows₀ rows answers₀ answers p → (p.filed ≤ length answers) × (p.filed ≤ most_documents) × (p.work ≤ remaining D d)
     may_end C = (omega (arith, C.filed_is, C.ready.answers_lent), omega (arith, C.filed_is, C.ready.few), C.ready.work_in)

@@ -9,9 +9,8 @@ use Rattle.stats.specs.declared.SolveStats.{SolveStats}
 use Rattle.solve_workspace.specs.declared.Bounds.{Bounds}
 use Rattle.solve_workspace.specs.declared.RenderOptions.{RenderOptions}
 use Rattle.materialize.specs.Rows.{Row}
-use Rattle.render.specs.declared.page.Rendered.{Rendered}
 use Rattle.render.specs.declared.order.Lengths.{Lengths}
-use Rattle.render.specs.Rendered.{counts_of}
+use Rattle.render.specs.Rendered.{Rendered, counts_of}
 use Rattle.desks.specs.declared.Desks.{Desks}
 use Rattle.desks.specs.Desks.{remaining, charged}
 use Rattle.desks.specs.Lent.{work_in}

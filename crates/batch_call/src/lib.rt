@@ -45,19 +45,13 @@ fn one_document(
     requires { Ready desk desks b files.now lengths.now p output.old spans.old answers.old × (p.filed < length lengths.now) }
     ensures { Tried desk desks options b (lent_lengths nodes.old edges.old choices.old texts.old bytes.old tasks.old results.old pending.old index.old entries.old kept.old frontier.old plans.old visit.old depth.old output.old spans.old) files.now lengths.now p output.old output.new spans.old spans.new answers.old answers.new result }
 {
-    let at = p.filed;
-    let from = p.at;
-    let to = from + (lengths[at] as usize);
-    let used = p.bytes;
-    let marked = p.spans;
-    let c = free(b, p);
-    let d = charged(desks, desk, p.work);
+    let to = p.at + lengths[p.filed] as usize;
     let r = render_for(
         desk,
-        d,
-        &files[from..to],
+        charged(desks, desk, p.work),
+        &files[p.at..to],
         options,
-        c,
+        free(b, p),
         nodes,
         edges,
         choices,
@@ -73,12 +67,11 @@ fn one_document(
         plans,
         visit,
         depth,
-        &mut output[used..],
-        &mut spans[marked..],
+        &mut output[p.bytes..],
+        &mut spans[p.spans..],
     );
-    let a = r.answer;
-    answers[at] = answer_words(a);
-    go_on(p, to, a)
+    answers[p.filed] = answer_words(r.answer);
+    go_on(p, to, r.answer)
 }
 
 // All documents, one after the other; a refused one does not hold up the next.
@@ -112,7 +105,7 @@ fn file_documents(
     ensures { Came desk desks options b (lent_lengths nodes.old edges.old choices.old texts.old bytes.old tasks.old results.old pending.old index.old entries.old kept.old frontier.old plans.old visit.old depth.old output.old spans.old) files.now lengths.now (length lengths.now) output.old output.new spans.old spans.new answers.old answers.new result }
 {
     let mut p = begin();
-    while p.filed < lengths.len() {
+    for _ in 0..lengths.len() {
         p = one_document(
             p, desk, desks, files, lengths, options, b, nodes, edges, choices, texts, bytes, tasks,
             results, pending, index, entries, kept, frontier, plans, visit, depth, output, spans,
@@ -174,10 +167,30 @@ pub fn file_all(
     if gate != 0 {
         return turn_away(gate, lengths.len(), shared);
     }
-    let desks = shared.desks;
     let p = file_documents(
-        desk, desks, files, lengths, options, b, nodes, edges, choices, texts, bytes, tasks,
-        results, pending, index, entries, kept, frontier, plans, visit, depth, output, spans,
+        desk,
+        shared.desks,
+        files,
+        lengths,
+        options,
+        b,
+        nodes,
+        edges,
+        choices,
+        texts,
+        bytes,
+        tasks,
+        results,
+        pending,
+        index,
+        entries,
+        kept,
+        frontier,
+        plans,
+        visit,
+        depth,
+        output,
+        spans,
         answers,
     );
     done(desk, shared, p, answers)

@@ -1,11 +1,9 @@
 -- Words that are read and written again are as they were, and an answer's words have its counts.
-use Rattle.std.specs.Prelude.{◌≡◌, refl, List, [], ℕ, zero, suc, ◌+◌, ◌-◌, ◌<◌, length, get_or}
+use Rattle.std.specs.Prelude.{◌≡◌, Ok, Err, refl, List, [], ℕ, zero, suc, ◌+◌, ◌-◌, ◌<◌, length, get_or}
 use Rattle.std.proofs.Common.{sym, ap, ◌∙◌, arith, ext_get_or}
 use Rattle.std.proofs.Math.Logic.{by_cases}
 use Rattle.std.proofs.Math.Decide.{dec_lt}
-use Rattle.render.specs.declared.page.Rendered.{Rendered}
-use Rattle.render.specs.declared.page.Rendered.TheVariants.{Page, Refused}
-use Rattle.render.specs.Rendered.{counts_of}
+use Rattle.render.specs.Rendered.{Rendered, counts_of}
 use Rattle.call_words.specs.Words.{count_words, words}
 use Rattle.call_words.specs.Accounts.{eight, desks_at, desk_words, counts_from}
 
@@ -56,5 +54,5 @@ counts_again w n = ext_get_or 0 (count_words (counts_from 0 w) []) w (sym n) at
     at (suc (suc (suc (suc (suc (suc (suc (suc (suc (suc i)))))))))) h = absurd (omega (arith, h))
 
 pub counts_told : (a : Rendered) → counts_from 7 (words a) ≡ counts_of a
-counts_told (Page c n m k q) = refl
-counts_told (Refused n needed k) = refl
+counts_told (Ok p) = refl
+counts_told (Err e) = refl

@@ -1,11 +1,10 @@
 -- Which word is what in a call's answer, in its settings and in its sizes.
-use Rattle.std.specs.Prelude.{List, [], ◌∷◌, ℕ, get_or}
+use Rattle.std.specs.Prelude.{Ok, Err, List, [], ◌∷◌, ℕ, get_or}
 use Rattle.stats.specs.declared.SolveStats.{SolveStats}
 use Rattle.solve_workspace.specs.declared.Bounds.{Bounds}
 use Rattle.solve_workspace.specs.declared.Needs.{Needs}
 use Rattle.solve_workspace.specs.declared.RenderOptions.{RenderOptions}
-use Rattle.render.specs.declared.page.Rendered.{Rendered}
-use Rattle.render.specs.declared.page.Rendered.TheVariants.{Page, Refused}
+use Rattle.render.specs.Rendered.{Rendered}
 
 -- work, fit checks, memo hits and misses, candidates generated and pruned, peak frontier, memo entries, plan nodes, visits; then the rest
 abbrev pub count_words : SolveStats → List ℕ → List ℕ
@@ -23,8 +22,8 @@ no_words = 0 ∷ 0 ∷ 0 ∷ 0 ∷ 0 ∷ 0 ∷ 0 ∷ 0 ∷ 0 ∷ []
 -- 0: the refusal's number, or 0 where there is a page; 1: the needed size; 2: the page's bytes; 3: its spans; 4 to 6: its cost, that is the
 -- high and the low half of the overflow, and the burden; 7 to 16: the counts; 17 to 25: a page's needs, in the order of 13 to 21
 abbrev pub words : Rendered → List ℕ
-words (Page c n m k q) = 0 ∷ 0 ∷ n ∷ m ∷ c.overflow_high ∷ c.overflow_low ∷ c.burden ∷ count_words k (need_words q)
-words (Refused n needed k) = n ∷ needed ∷ 0 ∷ 0 ∷ 0 ∷ 0 ∷ 0 ∷ count_words k no_words
+words (Ok p) = 0 ∷ 0 ∷ p.length ∷ p.spans ∷ p.cost.overflow_high ∷ p.cost.overflow_low ∷ p.cost.burden ∷ count_words p.stats (need_words p.needs)
+words (Err e) = e.number ∷ e.needed ∷ 0 ∷ 0 ∷ 0 ∷ 0 ∷ 0 ∷ count_words e.stats no_words
 
 abbrev pub options : ℕ → ℕ → ℕ → ℕ → RenderOptions
 options width newline_cost policy rule = record { width = width; newline_cost = newline_cost; policy = policy; rule = rule }

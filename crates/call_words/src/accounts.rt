@@ -1,5 +1,5 @@
 // The shared record in words: the desks' allowances and spent counts, and the counts.
-ghost use Rattle.std.specs.Prelude.{◌≡◌, []};
+ghost use Rattle.std.specs.Prelude.{◌≡◌, [], ◌+◌, ◌≤◌, length};
 ghost use Rattle.call_words.specs.Words.{count_words};
 ghost use Rattle.call_words.specs.Accounts.{desks_at, desk_words, counts_from};
 
@@ -26,21 +26,29 @@ pub fn desk_words(d: Desks) -> [u64; 16]
     ]
 }
 
+// Ten counts from a word on.
+fn counts_from(w: &[u64], i: usize) -> SolveStats
+    requires { i + 10 ≤ length w.now }
+    ensures { result ≡ counts_from i w.now }
+{
+    SolveStats {
+        work_items: w[i],
+        fit_checks: w[i + 1],
+        memo_hits: w[i + 2],
+        memo_misses: w[i + 3],
+        candidates_generated: w[i + 4],
+        candidates_pruned: w[i + 5],
+        peak_frontier: w[i + 6],
+        memo_entries: w[i + 7],
+        plan_nodes: w[i + 8],
+        visits: w[i + 9],
+    }
+}
+
 pub fn counts_of(w: [u64; 10]) -> SolveStats
     ensures { result ≡ counts_from 0 w }
 {
-    SolveStats {
-        work_items: w[0],
-        fit_checks: w[1],
-        memo_hits: w[2],
-        memo_misses: w[3],
-        candidates_generated: w[4],
-        candidates_pruned: w[5],
-        peak_frontier: w[6],
-        memo_entries: w[7],
-        plan_nodes: w[8],
-        visits: w[9],
-    }
+    counts_from(&w, 0)
 }
 
 pub fn counts_words(k: SolveStats) -> [u64; 10]
@@ -64,16 +72,5 @@ pub fn counts_words(k: SolveStats) -> [u64; 10]
 pub fn row_counts(w: [u64; 26]) -> SolveStats
     ensures { result ≡ counts_from 7 w }
 {
-    SolveStats {
-        work_items: w[7],
-        fit_checks: w[8],
-        memo_hits: w[9],
-        memo_misses: w[10],
-        candidates_generated: w[11],
-        candidates_pruned: w[12],
-        peak_frontier: w[13],
-        memo_entries: w[14],
-        plan_nodes: w[15],
-        visits: w[16],
-    }
+    counts_from(&w, 7)
 }

@@ -2,7 +2,7 @@
 ghost use Rattle.std.specs.Prelude.{◌≡◌};
 ghost use Rattle.call_words.specs.Heads.{head_at, head_words, opened_number, opened_words};
 
-use report_gate::{Head, Opened};
+use report_gate::Head;
 
 pub fn head_of(w: [u32; 5]) -> Head
     ensures { result ≡ head_at w }
@@ -22,24 +22,20 @@ pub fn head_words(h: Head) -> [u32; 5]
     [h.rows, h.width, h.newline_cost, h.policy, h.rule]
 }
 
-pub fn opened_number(o: Opened) -> u32
+pub fn opened_number(o: Result<Head, u32>) -> u32
     ensures { result ≡ opened_number o }
 {
     match o {
-        Opened::Report(_) => 0,
-        Opened::Refused(number) => number,
+        Ok(_) => 0,
+        Err(number) => number,
     }
 }
 
-pub fn opened_words(o: Opened, was: [u32; 5]) -> [u32; 5]
+pub fn opened_words(o: Result<Head, u32>, was: [u32; 5]) -> [u32; 5]
     ensures { result ≡ opened_words o was }
 {
     match o {
-        Opened::Report(h) => {
-            return head_words(h);
-        }
-        Opened::Refused(_) => {
-            return was;
-        }
+        Ok(h) => head_words(h),
+        Err(_) => was,
     }
 }

@@ -14,72 +14,70 @@ pub fn answer_words(r: Rendered) -> [u64; 26]
     ensures { result ≡ words r }
 {
     match r {
-        Rendered::Page {
-            cost,
-            length,
-            spans,
-            stats: k,
-            needs: q,
-        } => [
-            0,
-            0,
-            length as u64,
-            spans as u64,
-            cost.overflow_high,
-            cost.overflow_low,
-            cost.burden,
-            k.work_items,
-            k.fit_checks,
-            k.memo_hits,
-            k.memo_misses,
-            k.candidates_generated,
-            k.candidates_pruned,
-            k.peak_frontier,
-            k.memo_entries,
-            k.plan_nodes,
-            k.visits,
-            q.stack as u64,
-            q.memo as u64,
-            q.kept as u64,
-            q.frontier as u64,
-            q.plans as u64,
-            q.visit as u64,
-            q.depth as u64,
-            q.output as u64,
-            q.spans as u64,
-        ],
-        Rendered::Refused {
-            number,
-            needed,
-            stats: k,
-        } => [
-            number as u64,
-            needed,
-            0,
-            0,
-            0,
-            0,
-            0,
-            k.work_items,
-            k.fit_checks,
-            k.memo_hits,
-            k.memo_misses,
-            k.candidates_generated,
-            k.candidates_pruned,
-            k.peak_frontier,
-            k.memo_entries,
-            k.plan_nodes,
-            k.visits,
-            0,
-            0,
-            0,
-            0,
-            0,
-            0,
-            0,
-            0,
-            0,
-        ],
+        Ok(page) => {
+            let cost = page.cost;
+            let k = page.stats;
+            let q = page.needs;
+            [
+                0,
+                0,
+                page.length as u64,
+                page.spans as u64,
+                cost.overflow_high,
+                cost.overflow_low,
+                cost.burden,
+                k.work_items,
+                k.fit_checks,
+                k.memo_hits,
+                k.memo_misses,
+                k.candidates_generated,
+                k.candidates_pruned,
+                k.peak_frontier,
+                k.memo_entries,
+                k.plan_nodes,
+                k.visits,
+                q.stack as u64,
+                q.memo as u64,
+                q.kept as u64,
+                q.frontier as u64,
+                q.plans as u64,
+                q.visit as u64,
+                q.depth as u64,
+                q.output as u64,
+                q.spans as u64,
+            ]
+        }
+        Err(refusal) => {
+            let k = refusal.stats;
+            [
+                refusal.number as u64,
+                refusal.needed,
+                0,
+                0,
+                0,
+                0,
+                0,
+                k.work_items,
+                k.fit_checks,
+                k.memo_hits,
+                k.memo_misses,
+                k.candidates_generated,
+                k.candidates_pruned,
+                k.peak_frontier,
+                k.memo_entries,
+                k.plan_nodes,
+                k.visits,
+                0,
+                0,
+                0,
+                0,
+                0,
+                0,
+                0,
+                0,
+                0,
+            ]
+        }
     }
 }
 
@@ -87,18 +85,8 @@ pub fn answer_number(r: Rendered) -> u32
     ensures { result ≡ get_or (words r) 0 0 }
 {
     match r {
-        Rendered::Page {
-            cost: _,
-            length: _,
-            spans: _,
-            stats: _,
-            needs: _,
-        } => 0,
-        Rendered::Refused {
-            number,
-            needed: _,
-            stats: _,
-        } => number,
+        Ok(_) => 0,
+        Err(refusal) => refusal.number,
     }
 }
 
@@ -106,10 +94,10 @@ pub fn options_of(width: u32, newline_cost: u32, policy: u32, rule: u32) -> Rend
     ensures { result ≡ options width newline_cost policy rule }
 {
     RenderOptions {
-        width: width,
-        newline_cost: newline_cost,
-        policy: policy,
-        rule: rule,
+        width,
+        newline_cost,
+        policy,
+        rule,
     }
 }
 
@@ -126,7 +114,7 @@ pub fn bounds_of(s: [u32; 9], work_limit: u64, visit_limit: u64) -> Bounds
         depth: s[6],
         output: s[7],
         spans: s[8],
-        work_limit: work_limit,
-        visit_limit: visit_limit,
+        work_limit,
+        visit_limit,
     }
 }

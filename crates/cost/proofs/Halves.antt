@@ -1,5 +1,6 @@
 -- Numbers of two digits at a base b: sums and order. Over any base, since the base in use is too large for omega's own numbers.
 use Rattle.std.proofs.Common.{◌≡◌, ℕ, ◌+◌, ◌*◌, ◌<◌, ◌≤◌, ap, mul-le-mul_right, add-mul, one-mul, arith}
+use Rattle.std.proofs.Math.Nat.{mul_assoc}
 
 module _ (b : ℕ) where
   next : (h : ℕ) → (h + 1) * b ≡ h * b + b
@@ -19,22 +20,12 @@ module _ (b : ℕ) where
   pub two_digits : (h l : ℕ) → h < b → l < b → h * b + l < b * b
   two_digits h l p q = omega (arith, next h, mul-le-mul_right {m = h + 1} {n = b} b (omega arith))
 
-  -- the high digits alone pass
-  pub high_past : (h l k m : ℕ) → b ≤ h + k → b * b ≤ h * b + l + (k * b + m)
-  high_past h l k m p = omega (arith, add-mul h k b, mul-le-mul_right {m = b} {n = h + k} b p)
+  -- a sum of two numbers by its digits: c is what the low digits carry, p what the high ones carry beyond
+  carried : (h l k m c p s t : ℕ) → s + c * b ≡ l + m + 0 → t + p * b ≡ h + k + c → t * b + s + p * (b * b) ≡ h * b + l + (k * b + m)
+  carried h l k m c p s t e f = omega (arith, add-mul t (p * b) b, add-mul (h + k) c b, add-mul h k b, mul_assoc p b b, ap (λ (z : ℕ). z * b) f)
 
-  pub no_carry : (h l k m s : ℕ) → l + m ≡ s → (h + k) * b + s ≡ h * b + l + (k * b + m)
-  no_carry h l k m s p = omega (arith, add-mul h k b)
+  pub sum_past : (h l k m c s t : ℕ) → s + c * b ≡ l + m + 0 → t + 1 * b ≡ h + k + c → b * b ≤ h * b + l + (k * b + m)
+  sum_past h l k m c s t e f = omega (arith, carried h l k m c 1 s t e f, one-mul (b * b))
 
-  pub carry : (h l k m s : ℕ) → l + m ≡ s + b → (h + k + 1) * b + s ≡ h * b + l + (k * b + m)
-  carry h l k m s p = omega (arith, add-mul h k b, next (h + k))
-
-  -- the high digits pass with the carry
-  pub carry_past : (h l k m s : ℕ) → l + m ≡ s + b → b ≤ h + k + 1 → b * b ≤ h * b + l + (k * b + m)
-  carry_past h l k m s p q = omega (arith, carry h l k m s p, mul-le-mul_right {m = b} {n = h + k + 1} b q)
-
-  pub sum_fits : (h l k m s : ℕ) → l + m ≡ s → h + k < b → s < b → h * b + l + (k * b + m) < b * b
-  sum_fits h l k m s p q r = omega (arith, no_carry h l k m s p, two_digits (h + k) s q r)
-
-  pub carry_fits : (h l k m s : ℕ) → l + m ≡ s + b → h + k + 1 < b → s < b → h * b + l + (k * b + m) < b * b
-  carry_fits h l k m s p q r = omega (arith, carry h l k m s p, two_digits (h + k + 1) s q r)
+  pub sum_is : (h l k m c s t : ℕ) → s + c * b ≡ l + m + 0 → t + 0 * b ≡ h + k + c → t * b + s ≡ h * b + l + (k * b + m)
+  sum_is h l k m c s t e f = omega (arith, carried h l k m c 0 s t e f)

@@ -1,13 +1,21 @@
 -- Laws for the functions of this crate: sums of halves, products of columns, the order of halves.
-use Rattle.std.proofs.Common.{◌≡◌, ℕ, ◌+◌, ◌-◌, ◌*◌, ◌^◌, ◌<◌, ◌≤◌, Bool, true, false, ltb, leb, sym, refl, ap, ap₂, lt_of_lt_of_le, le_of_lt, lt_irrefl, not-le_of_lt, arith, ltb-false, ltb-true, le-ltb, lt-ltb, eq-eqb, ne_eqb, le-leb, leb-true}
+use Rattle.std.proofs.Common.{◌≡◌, ℕ, ◌+◌, ◌-◌, ◌*◌, ◌^◌, ◌<◌, ◌≤◌, Bool, true, false, ltb, sym, refl, ap, ap₂, lt_of_lt_of_le, le_of_lt, lt_irrefl, not-le_of_lt, arith, ltb-false, ltb-true, le-ltb, lt-ltb, eq-eqb, ne_eqb, leb-true}
+use Rattle.std.specs.Ordering.{MatchOrdering, nat_cmp, partial_ordering_then, partial_le, partial_lt, is_some_and, is_le, is_lt}
+use Rattle.std.proofs.Common.{Ordering, Less, Equal, Greater, Some, not}
+use Rattle.std.proofs.lemmas.Cmp.{ranked}
 use mathlib.Core.Option.{none, some}
+use Rattle.cost.proofs.Halves.{high_less, low_less, same}
 use Rattle.cost.specs.Cost.{Cost, cheap}
 use Rattle.cost.specs.Charge.{charged, text_cost, newline_cost}
 use Rattle.cost.specs.Rising.{charged_small}
-use Rattle.cost.specs.Logic.{false_if, same_test}
+use Rattle.cost.specs.Logic.{false_if}
 use Rattle.cost.specs.Order.{Cheap, cheap_is, is_cheap}
-use Rattle.cost.specs.Value.{value, pick_option, halved_within, cost, past, within, text_outcome, newline_outcome}
+use Rattle.cost.specs.Value.{value, pick_option, halved_within, cost, past, within, text_outcome, newline_outcome, outcome}
+use Rattle.cost.specs.contracts.ConsumerCostPartialOrd.TheImpl.{partial_cmp-value}
 use Rattle.cost.specs.declared.ConsumerCost.{ConsumerCost}
+use Rattle.std.specs.Prelude.{Option, None, Result, Err, IsErrAnd, ok_or}
+use Rattle.std.proofs.lemmas.Result.{err_from_is_err_and}
+use Rattle.cost.specs.declared.Reason.{Reason}
 use Rattle.cost.specs.declared.Reason.TheVariants.{Column, Overflow, Burden}
 
 zero_one : ◌≡◌ {A = ℕ} 0 1 → ⊥
@@ -41,6 +49,14 @@ place_some {n} {m} e = go (ltb n (2 ^ 128)) refl e
     go : (t : Bool) → ltb n (2 ^ 128) ≡ t → some m ≡ pick_option t n → Fits m n
     go true q f = record { same = cc; below = ltb-true n (2 ^ 128) q }
     go false q f = let z : ◌≡◌ {A = ℕ} 0 1 = cc in absurd (zero_one z)
+
+-- what `o.ok_or(e)?` leaves by, where o is none
+pub left_by : {A : Type 0} (o : Option A) (r : Result ConsumerCost Reason) (d e : Reason) → IsErrAnd r (λ x. x ≡ d) → o ≡ None → Err d ≡ ok_or o e → outcome r ≡ past e
+left_by o r d e h n v =
+    let p = err_from_is_err_and r h in
+    let w = rw n at v in
+    let q : d ≡ e = cc in
+    rw (p.1, p.2, q)
 
 pub within_overflow : (c : Cost) → 2 ^ 128 ≤ c.overflow → past Overflow ≡ within c
 unfolding within
@@ -82,18 +98,40 @@ at_most a b h = sym (is_cheap a b h)
 pub dearer : (a b : Cost) → (Cheap a b → ⊥) → false ≡ cheap a b
 dearer a b h = sym (false_if (cheap a b) λ e. h (cheap_is a b e))
 
-pub by_burden : (a b : Cost) → a.overflow ≡ b.overflow → leb a.burden b.burden ≡ cheap a b
-by_burden a b e = same_test _ _
-    (λ t. is_cheap a b (record { overflow_le = omega arith; burden_le = λ _. leb-true _ _ t }))
-    (λ t. le-leb _ _ ((cheap_is a b t).burden_le e))
+at_burden : (a b : Cost) (o : Ordering) → a.overflow ≡ b.overflow → MatchOrdering o (a.burden < b.burden) (a.burden ≡ b.burden) (b.burden < a.burden) → is_le o ≡ cheap a b
+at_burden a b Less e h = at_most a b (record { overflow_le = omega arith; burden_le = λ _. omega arith })
+at_burden a b Equal e h = at_most a b (record { overflow_le = omega arith; burden_le = λ _. omega arith })
+at_burden a b Greater e h = dearer a b λ k. not-le_of_lt h (k.burden_le e)
 
--- the order of costs whose overflow is held in two halves
-module _ (a b : ConsumerCost) where
-  pub less_overflow : (value a).overflow < (value b).overflow → true ≡ cheap (value a) (value b)
-  less_overflow h = at_most _ _ (record { overflow_le = le_of_lt h; burden_le = λ e. absurd (lt_irrefl _ (rw e at h)) })
+below_burden : (a b : Cost) (o : Ordering) → a.overflow ≡ b.overflow → MatchOrdering o (a.burden < b.burden) (a.burden ≡ b.burden) (b.burden < a.burden) → is_lt o ≡ not (cheap b a)
+below_burden a b Less e h = ap not (dearer b a λ k. not-le_of_lt h (k.burden_le (sym e)))
+below_burden a b Equal e h = ap not (at_most b a (record { overflow_le = omega arith; burden_le = λ _. omega arith }))
+below_burden a b Greater e h = ap not (at_most b a (record { overflow_le = omega arith; burden_le = λ _. omega arith }))
 
-  pub more_overflow : (value b).overflow < (value a).overflow → false ≡ cheap (value a) (value b)
-  more_overflow h = dearer _ _ λ k. not-le_of_lt h k.overflow_le
+less_overflow : (a b : Cost) → a.overflow < b.overflow → true ≡ cheap a b
+less_overflow a b h = at_most a b (record { overflow_le = le_of_lt h; burden_le = λ e. absurd (lt_irrefl _ (rw e at h)) })
+
+more_overflow : (a b : Cost) → b.overflow < a.overflow → false ≡ cheap a b
+more_overflow a b h = dearer a b λ k. not-le_of_lt h k.overflow_le
+
+-- the derived order of costs, by high half, low half and burden, is that of what they stand for: by overflow and burden
+module _ (a b : ConsumerCost) (p : a.overflow_low < 2 ^ 64) (q : b.overflow_low < 2 ^ 64) where
+  module _ (t : Ordering → Bool) (r : Bool) (below : (value a).overflow < (value b).overflow → t Less ≡ r) (above : (value b).overflow < (value a).overflow → t Greater ≡ r) (level : (o : Ordering) → (value a).overflow ≡ (value b).overflow → MatchOrdering o (a.burden < b.burden) (a.burden ≡ b.burden) (b.burden < a.burden) → t o ≡ r) where
+    by_low : (o : Ordering) → a.overflow_high ≡ b.overflow_high → MatchOrdering o (a.overflow_low < b.overflow_low) (a.overflow_low ≡ b.overflow_low) (b.overflow_low < a.overflow_low) → is_some_and t (partial_ordering_then (Some o) (Some (nat_cmp a.burden b.burden))) ≡ r
+    by_low Less e h = below (low_less (2 ^ 64) a.overflow_high a.overflow_low b.overflow_high b.overflow_low e h)
+    by_low Equal e h = level _ (same (2 ^ 64) a.overflow_high a.overflow_low b.overflow_high b.overflow_low e h) (ranked a.burden b.burden _ refl)
+    by_low Greater e h = above (low_less (2 ^ 64) b.overflow_high b.overflow_low a.overflow_high a.overflow_low (sym e) h)
+
+    by_high : (o : Ordering) → MatchOrdering o (a.overflow_high < b.overflow_high) (a.overflow_high ≡ b.overflow_high) (b.overflow_high < a.overflow_high) → is_some_and t (partial_ordering_then (Some o) (partial_ordering_then (Some (nat_cmp a.overflow_low b.overflow_low)) (Some (nat_cmp a.burden b.burden)))) ≡ r
+    by_high Less h = below (high_less (2 ^ 64) a.overflow_high a.overflow_low b.overflow_high b.overflow_low h p)
+    by_high Equal h = by_low _ h (ranked a.overflow_low b.overflow_low _ refl)
+    by_high Greater h = above (high_less (2 ^ 64) b.overflow_high b.overflow_low a.overflow_high a.overflow_low h q)
+
+  pub le_is : partial_le partial_cmp-value.it a b ≡ cheap (value a) (value b)
+  le_is = by_high is_le _ (less_overflow _ _) (more_overflow _ _) (at_burden _ _) _ (ranked a.overflow_high b.overflow_high _ refl)
+
+  pub lt_is : partial_lt partial_cmp-value.it a b ≡ not (cheap (value b) (value a))
+  lt_is = by_high is_lt _ (λ h. ap not (more_overflow _ _ h)) (λ h. ap not (less_overflow _ _ h)) (below_burden _ _) _ (ranked a.overflow_high b.overflow_high _ refl)
 
 -- an overflow that has its place in the low half
 pub low_only : (x y burden : ℕ) → x ≡ y → value (record { overflow_high = 0; overflow_low = x; burden = burden }) ≡ record { overflow = y; burden = burden }

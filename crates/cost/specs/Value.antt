@@ -1,15 +1,12 @@
 -- What the stored words of a cost stand for, and which costs have a place in them: overflow below 2^128, burden below 2^64, columns below 2^32.
-use Rattle.std.specs.Prelude.{ℕ, ◌+◌, ◌*◌, ◌^◌, Bool, true, false, nat_lt}
+use Rattle.std.specs.Prelude.{ℕ, ◌+◌, ◌*◌, ◌^◌, Bool, true, false, nat_lt, Some, None, Result, Ok, Err}
+use Rattle.std.specs.Prelude.{Option as Optional}
 use Rattle.std.proofs.Math.Option.{Option, none, some}
 use Rattle.cost.specs.Cost.{Cost}
 use Rattle.cost.specs.Charge.{charged, text_cost, newline_cost}
 use Rattle.cost.specs.declared.Reason.{Reason}
 use Rattle.cost.specs.declared.Reason.TheVariants.{Column, Indent, Overflow, Burden}
 use Rattle.cost.specs.declared.ConsumerCost.{ConsumerCost}
-use Rattle.cost.specs.declared.Sum.{Sum}
-use Rattle.cost.specs.declared.Sum.TheVariants.{Halves, Past}
-use Rattle.cost.specs.declared.Costed.{Costed}
-use Rattle.cost.specs.declared.Costed.TheVariants.{Cost as Is, Failed}
 
 abbrev pub pick_option : Bool → ℕ → Option ℕ
 pick_option true n = some n
@@ -20,9 +17,9 @@ abbrev pub halves : ℕ → ℕ → ℕ
 halves high low = high * 2 ^ 64 + low
 
 -- an overflow, or none where it has no place in two halves
-abbrev pub halved : Sum → Option ℕ
-halved (Halves high low) = some (halves high low)
-halved Past = none
+abbrev pub halved : Optional (ℕ × ℕ) → Option ℕ
+halved (Some (high, low)) = some (halves high low)
+halved None = none
 
 unfoldable pub halved_within : ℕ → Option ℕ
 halved_within n = pick_option (nat_lt n (2 ^ 128)) n
@@ -52,9 +49,9 @@ unfoldable pub newline_outcome : ℕ → ℕ → ℕ → ℕ → Outcome
 newline_outcome r w newline indent = within (newline_cost (charged r w) newline indent)
 
 -- an answer's case and value
-abbrev pub outcome : Costed → Outcome
-outcome (Is c) = cost (value c)
-outcome (Failed r) = past r
+abbrev pub outcome : Result ConsumerCost Reason → Outcome
+outcome (Ok c) = cost (value c)
+outcome (Err r) = past r
 
 -- the refusal's number for what is past its width: document 01, as document 02, change 3, parts it
 abbrev pub domain_number : Reason → ℕ

@@ -1,4 +1,5 @@
 -- From the gate, the call under it and the charge to a call for a desk.
+use Rattle.std.specs.Prelude.{Err}
 use mathlib.Core.Path.{◌≡◌, refl, sym, subst}
 use mathlib.Core.Bool.{Bool}
 use mathlib.Core.List.{List}
@@ -9,13 +10,11 @@ use Rattle.stats.specs.Counts.{none_counted}
 use Rattle.solve_workspace.specs.declared.Bounds.{Bounds}
 use Rattle.solve_workspace.specs.declared.RenderOptions.{RenderOptions}
 use Rattle.materialize.specs.Rows.{Row}
-use Rattle.render.specs.declared.page.Rendered.{Rendered}
-use Rattle.render.specs.declared.page.Rendered.TheVariants.{Refused}
-use Rattle.render.specs.declared.page.Drafted.{Drafted}
-use Rattle.render.specs.declared.page.Drafted.TheVariants.{Refused as Denied}
+use Rattle.render.specs.declared.page.Refusal.{Refusal}
 use Rattle.render.specs.declared.order.Lengths.{Lengths}
 use Rattle.render.specs.Order.{InOrder}
-use Rattle.render.specs.Rendered.{Stands}
+use Rattle.render.specs.Rendered.{Rendered, refusal_with, Stands}
+use Rattle.render.specs.Drafts.{Drafted}
 use Rattle.render.specs.Call.{Rendering, Drafting}
 use Rattle.render.proofs.Pages.{unaltered}
 use Rattle.desks.specs.declared.Desks.{Desks}
@@ -27,10 +26,10 @@ use Rattle.desks.proofs.Calling.{gated, opened, work_of_call, render_served, ren
 
 -- ---- no work
 
-pub nothing_done : (D : Desks) (d : ℕ) {a : Rendered} {g : ℕ} → a ≡ Refused g 0 none_counted → work_in a ≤ remaining D d
-nothing_done D d {g = g} e = subst (λ (a : Rendered). work_in a ≤ remaining D d) (sym e) (omega arith)
+pub nothing_done : (D : Desks) (d : ℕ) {x : Refusal} {g : ℕ} → x ≡ refusal_with g 0 none_counted → work_in (Err x) ≤ remaining D d
+nothing_done D d {g = g} e = subst (λ (x : Refusal). work_in (Err x) ≤ remaining D d) (sym e) (omega arith)
 
-nothing_stands : (g : ℕ) (output : List ℕ) (rows : List Row) → Stands (Refused g 0 none_counted) output output rows rows
+nothing_stands : (g : ℕ) (output : List ℕ) (rows : List Row) → Stands (Err (refusal_with g 0 none_counted)) output output rows rows
 nothing_stands g output rows = record { output_is = unaltered output output refl; rows_are = unaltered rows rows refl; fitting = λ k h. absurd (omega (arith, h)); no_fit_checks = refl }
 
 gate : (d : ℕ) {o : RenderOptions} {b : Bounds} {l : Lengths} {t : Bool} {g : ℕ} → Told (InOrder o b l) t → g ≡ gate_number t d → DeskGate (InOrder o b l) d g
@@ -40,7 +39,7 @@ module _ (d : ℕ) (D : Desks) {file : List ℕ} {o : RenderOptions} {b : Bounds
   module _ {t : Bool} {g : ℕ} (told : Told (InOrder o b l) t) (is : g ≡ gate_number t d) where
     -- ---- the whole call
 
-    pub shut_call : (output : List ℕ) (rows : List Row) {a : Rendered} {r : DeskAnswer} → (g ≡ 0 → ⊥) → a ≡ Refused g 0 none_counted → r ≡ charging a d D
+    pub shut_call : (output : List ℕ) (rows : List Row) {x : Refusal} {r : DeskAnswer} → (g ≡ 0 → ⊥) → x ≡ refusal_with g 0 none_counted → r ≡ charging (Err x) d D
         → DeskRendering d D file o b l output output rows rows r.answer × (r.desks ≡ charged D d (work_in r.answer))
     shut_call output rows ne e c = rw (c, e) (render_shut output rows ne (gate d told is) (nothing_stands g output rows), refl)
 
@@ -56,8 +55,8 @@ module _ (d : ℕ) (D : Desks) {file : List ℕ} {o : RenderOptions} {b : Bounds
 
     -- ---- its first half
 
-    pub shut_plan : (plans texts : List Row) (bytes : List ℕ) → (g ≡ 0 → ⊥) → DeskDrafting d D file o b l plans texts bytes (Denied g 0 none_counted)
-    shut_plan plans texts bytes ne = record { half = record { by = λ output rows. render_shut output rows ne (gate d told is) (nothing_stands g output rows) }; lent = λ f e. let z : ◌≡◌ {A = ℕ} 0 1 = cc in absurd (omega (arith, z)) }
+    pub shut_plan : (plans texts : List Row) (bytes : List ℕ) {x : Refusal} → (g ≡ 0 → ⊥) → x ≡ refusal_with g 0 none_counted → DeskDrafting d D file o b l plans texts bytes (Err x)
+    shut_plan plans texts bytes ne e = rw e record { half = record { by = λ output rows. render_shut output rows ne (gate d told is) (nothing_stands g output rows) }; lent = λ f e. let z : ◌≡◌ {A = ℕ} 0 1 = cc in absurd (omega (arith, z)) }
 
     pub served_plan : {c : Bounds} {plans texts : List Row} {bytes : List ℕ} {r : Drafted} → g ≡ 0 → c ≡ within D d b → Drafting file o c l plans texts bytes r → DeskDrafting d D file o b l plans texts bytes r
     served_plan {plans = plans} {texts = texts} {bytes = bytes} {r = r} z e R = let w = opened z (gate d told is) in plan_served r w.0 w.1 (subst (λ (x : Bounds). Drafting file o x l plans texts bytes r) e R)

@@ -2,8 +2,6 @@
 #![tactic(auto)]
 
 ghost use Rattle.std.specs.Prelude.{◌≡◌};
-ghost use Rattle.stats.specs.Counts.{none_counted};
-ghost use Rattle.render.specs.declared.page.Rendered.TheVariants.{Refused};
 ghost use Rattle.render.specs.Call.{lengths, lengths_with};
 ghost use Rattle.desks.specs.Desks.{charged};
 ghost use Rattle.desks.specs.Lent.{work_in};
@@ -12,19 +10,8 @@ ghost use Rattle.desks.specs.Calls.{DeskRendering, DeskDrafting};
 use desks::{DeskAnswer, Desks, allowed, charge, desk_gate};
 use render::call::{render_core, render_plan};
 use render::order::{Lengths, in_order};
-use render::page::{Drafted, Rendered};
+use render::page::{Drafted, Refusal};
 use solve_workspace::{Bounds, RenderOptions};
-use stats::SolveStats;
-
-fn refusal(number: u32) -> Rendered
-    ensures { result ≡ Refused number 0 none_counted }
-{
-    Rendered::Refused {
-        number: number,
-        needed: 0,
-        stats: SolveStats::ZERO,
-    }
-}
 
 // A file's page, or why there is none, as `render_core`, and the desks with its work charged.
 pub fn render_for(
@@ -75,7 +62,7 @@ pub fn render_for(
     let ordered = in_order(options, b, l);
     let gate = desk_gate(ordered, desk);
     if gate != 0 {
-        return charge(refusal(gate), desk, desks);
+        return charge(Err(Refusal::uncounted(gate)), desk, desks);
     }
     let c = allowed(desks, desk, b);
     let a = render_core(
@@ -127,18 +114,14 @@ pub fn plan_for(
         frontier: frontier.len(),
         plans: plans.len(),
         visit: visit.len(),
-        depth: depth,
-        output: output,
-        spans: spans,
+        depth,
+        output,
+        spans,
     };
     let ordered = in_order(options, b, l);
     let gate = desk_gate(ordered, desk);
     if gate != 0 {
-        return Drafted::Refused {
-            number: gate,
-            needed: 0,
-            stats: SolveStats::ZERO,
-        };
+        return Err(Refusal::uncounted(gate));
     }
     let lesser = allowed(desks, desk, b);
     render_plan(

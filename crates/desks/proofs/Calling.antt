@@ -1,4 +1,5 @@
 -- A call on one file, from what it promises by itself to what it promises for a desk.
+use Rattle.std.specs.Prelude.{Ok, Err}
 use mathlib.Core.Path.{◌≡◌, refl, sym, subst}
 use mathlib.Core.Bool.{Bool, true, false}
 use mathlib.Core.List.{List}
@@ -18,15 +19,11 @@ use Rattle.solve_workspace.specs.declared.Bounds.{Bounds}
 use Rattle.solve_workspace.specs.declared.RenderOptions.{RenderOptions}
 use Rattle.solve_workspace.specs.Meets.{limits}
 use Rattle.materialize.specs.Rows.{Row}
-use Rattle.render.specs.declared.page.Rendered.{Rendered}
-use Rattle.render.specs.declared.page.Rendered.TheVariants.{Page, Refused}
 use Rattle.render.specs.declared.page.Draft.{Draft}
-use Rattle.render.specs.declared.page.Drafted.{Drafted}
-use Rattle.render.specs.declared.page.Drafted.TheVariants.{Page as Drawing, Refused as Denied}
 use Rattle.render.specs.declared.order.Lengths.{Lengths}
 use Rattle.render.specs.Order.{InOrder}
-use Rattle.render.specs.Rendered.{meant, Stands}
-use Rattle.render.specs.Drafts.{Drawn}
+use Rattle.render.specs.Rendered.{Rendered, refusal_with, meant, Stands}
+use Rattle.render.specs.Drafts.{Drafted, Drawn}
 use Rattle.render.specs.Call.{settings, Rendering, Drafting}
 use Rattle.desks.specs.declared.Desks.{Desks}
 use Rattle.desks.specs.Desks.{last_desk, remaining, charged, work, gate_number}
@@ -88,8 +85,8 @@ answers_unit i (laid_out c m) = laid_out (lent_as tt c) m
 -- ---- the call
 
 pub work_meant : (r : Rendered) (output : List ℕ) (rows : List Row) → work (meant r output rows) ≡ work_in r
-work_meant (Page c n m k q) output rows = refl
-work_meant (Refused n needed k) output rows = refl
+work_meant (Ok p) output rows = refl
+work_meant (Err e) output rows = refl
 
 -- a call does no more than its desk may still do
 pub work_of_call : {d : ℕ} {D : Desks} {file : List ℕ} {o : RenderOptions} {b : Bounds} {l : Lengths} {output₀ output : List ℕ} {rows₀ rows : List Row} {a : Rendered} → DeskRendering d D file o b l output₀ output rows₀ rows a → work_in a ≤ remaining D d
@@ -127,15 +124,15 @@ module _ {d : ℕ} {D : Desks} {file : List ℕ} {o : RenderOptions} {b : Bounds
     stands = R.stands;
   }
 
-  pub render_shut : {g : ℕ} (output : List ℕ) (rows : List Row) → (g ≡ 0 → ⊥) → DeskGate (InOrder o b l) d g → Stands (Refused g 0 none_counted) output output rows rows
-      → DeskRendering d D file o b l output output rows rows (Refused g 0 none_counted)
+  pub render_shut : {g : ℕ} (output : List ℕ) (rows : List Row) → (g ≡ 0 → ⊥) → DeskGate (InOrder o b l) d g → Stands (Err (refusal_with g 0 none_counted)) output output rows rows
+      → DeskRendering d D file o b l output output rows rows (Err (refusal_with g 0 none_counted))
   render_shut output rows ne h t = record { right = record { serving = serving (single_steady file (settings o)) (shut ne h); promised = refusal h ne }; stands = t }
 
   -- ---- its first half
 
   pub plan_served : {plans texts : List Row} {bytes : List ℕ} (r : Drafted) → InOrder o b l → d ≤ last_desk → Drafting file o (within D d b) l plans texts bytes r → DeskDrafting d D file o b l plans texts bytes r
-  plan_served (Drawing f) i h R = record {
+  plan_served (Ok f) i h R = record {
     half = record { by = (drawn_as D d R.half.by.0, record { by = λ u v x y m n w. render_served i h (R.half.by.1.by u v x y m n w) }) };
     lent = λ g e. i.page;
   }
-  plan_served (Denied n needed k) i h R = record { half = record { by = λ u x. render_served i h (R.half.by u x) }; lent = λ g e. i.page }
+  plan_served (Err e) i h R = record { half = record { by = λ u x. render_served i h (R.half.by u x) }; lent = λ g e. i.page }

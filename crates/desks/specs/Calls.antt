@@ -1,19 +1,16 @@
 -- What a call on one file promises where a desk asks for it (document 02, change 8).
-use Rattle.std.specs.Prelude.{◌≡◌, List, ℕ, ◌≤◌, ◌<◌}
+use Rattle.std.specs.Prelude.{◌≡◌, Ok, List, ℕ, ◌≤◌, ◌<◌}
 use Rattle.machine.specs.Answer.{Answer}
 use Rattle.answer.specs.Page.{Promised}
 use Rattle.solve_workspace.specs.declared.Bounds.{Bounds}
 use Rattle.solve_workspace.specs.declared.RenderOptions.{RenderOptions}
 use Rattle.solve_workspace.specs.Meets.{limits}
 use Rattle.materialize.specs.Rows.{Row}
-use Rattle.render.specs.declared.page.Rendered.{Rendered}
 use Rattle.render.specs.declared.page.Draft.{Draft}
-use Rattle.render.specs.declared.page.Drafted.{Drafted}
-use Rattle.render.specs.declared.page.Drafted.TheVariants.{Page as Drawing}
 use Rattle.render.specs.declared.order.Lengths.{Lengths}
 use Rattle.render.specs.Order.{PageLent, InOrder}
-use Rattle.render.specs.Rendered.{meant, Stands}
-use Rattle.render.specs.Drafts.{Half}
+use Rattle.render.specs.Rendered.{Rendered, meant, Stands}
+use Rattle.render.specs.Drafts.{Drafted, Half}
 use Rattle.render.specs.Call.{settings}
 use Rattle.desks.specs.declared.Desks.{Desks}
 use Rattle.desks.specs.Desks.{last_desk, charged}
@@ -34,7 +31,7 @@ pub record DeskRendering (d : ℕ) (D : Desks) (file : List ℕ) (o : RenderOpti
 -- its first half
 pub record DeskDrafting (d : ℕ) (D : Desks) (file : List ℕ) (o : RenderOptions) (b : Bounds) (l : Lengths) (plans texts : List Row) (bytes : List ℕ) (r : Drafted) : Type 0 where
   pub half : Half (DeskRendering d D file o b l) b plans texts bytes r
-  pub lent : (f : Draft) → r ≡ Drawing f → PageLent b l
+  pub lent : (f : Draft) → r ≡ Ok f → PageLent b l
 
 -- ---- what the number of the gate says; 0 is that the call may go on
 

@@ -2,8 +2,7 @@
 use Rattle.std.specs.Prelude.{ℕ, min}
 use Rattle.stats.specs.declared.SolveStats.{SolveStats}
 use Rattle.solve_workspace.specs.declared.Bounds.{Bounds}
-use Rattle.render.specs.declared.page.Rendered.{Rendered}
-use Rattle.render.specs.Rendered.{counts_of}
+use Rattle.render.specs.Rendered.{Rendered, counts_of}
 use Rattle.desks.specs.declared.Desks.{Desks}
 use Rattle.desks.specs.declared.DeskAnswer.{DeskAnswer}
 use Rattle.desks.specs.declared.SharedRecord.{SharedRecord}

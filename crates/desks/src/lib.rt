@@ -38,24 +38,17 @@ fn remaining(d: Desks, desk: u32) -> u64
         return 0;
     }
     let at = desk as usize;
-    let allowance = d.allowance[at];
-    let spent = d.spent[at];
-    if allowance < spent {
-        return 0;
-    }
-    allowance - spent
+    d.allowance[at].saturating_sub(d.spent[at])
 }
 
 // The call's sizes and limits, its work held to what the desk may still do.
 pub fn allowed(d: Desks, desk: u32, b: Bounds) -> Bounds
     ensures { result ≡ within d desk b }
 {
-    let left = remaining(d, desk);
-    let mut c = b;
-    if left < b.work_limit {
-        c.work_limit = left;
+    Bounds {
+        work_limit: b.work_limit.min(remaining(d, desk)),
+        ..b
     }
-    c
 }
 
 // So much work more for a desk: no more than it may still do, so that the count has its place. Nothing else is altered, and nothing at all for a desk above 7.
@@ -63,12 +56,11 @@ pub fn charged(d: Desks, desk: u32, work: u64) -> Desks
     requires { work ≤ remaining d desk }
     ensures { result ≡ charged d desk work }
 {
-    let mut e = d;
+    let mut after = d;
     if desk <= 7 {
-        let at = desk as usize;
-        e.spent[at] = e.spent[at] + work;
+        after.spent[desk as usize] += work;
     }
-    e
+    after
 }
 
 // 1 (order), then 28 (no such desk); 0 where a call may go on.
@@ -76,30 +68,20 @@ pub fn desk_gate(ordered: bool, desk: u32) -> u32
     ensures { result ≡ gate_number ordered desk }
 {
     if !ordered {
-        return 1;
+        1
+    } else if 7 < desk {
+        28
+    } else {
+        0
     }
-    if 7 < desk {
-        return 28;
-    }
-    0
 }
 
 pub fn work_of(a: Rendered) -> u64
     ensures { result ≡ work_in a }
 {
     match a {
-        Rendered::Page {
-            cost: _,
-            length: _,
-            spans: _,
-            stats,
-            needs: _,
-        } => stats.work_items,
-        Rendered::Refused {
-            number: _,
-            needed: _,
-            stats: k,
-        } => k.work_items,
+        Ok(page) => page.stats.work_items,
+        Err(refusal) => refusal.stats.work_items,
     }
 }
 
@@ -108,10 +90,9 @@ pub fn charge(a: Rendered, desk: u32, d: Desks) -> DeskAnswer
     requires { work_in a ≤ remaining d desk }
     ensures { result ≡ charging a desk d }
 {
-    let after = charged(d, desk, work_of(a));
     DeskAnswer {
         answer: a,
-        desks: after,
+        desks: charged(d, desk, work_of(a)),
     }
 }
 
@@ -120,10 +101,8 @@ pub fn settled(r: SharedRecord, desk: u32, stats: SolveStats) -> SharedRecord
     requires { stats.work_items ≤ remaining r.desks desk }
     ensures { result ≡ settled r desk stats }
 {
-    let before = r.desks;
-    let after = charged(before, desk, stats.work_items);
     SharedRecord {
-        stats: stats,
-        desks: after,
+        stats,
+        desks: charged(r.desks, desk, stats.work_items),
     }
 }

@@ -1,5 +1,6 @@
 -- What a node's kind asks of its first and second, kind by kind.
-use mathlib.Core.Path.{◌≡◌}
+use mathlib.Core.Path.{◌≡◌, sym, ap, ◌∙◌}
+use mathlib.Core.Logic.{◌⊎◌, inl, inr}
 use mathlib.Core.Bool.{true, false}
 use mathlib.Core.Option.{some}
 use mathlib.Core.List.{List}
@@ -7,6 +8,9 @@ use Prim.Native.Nat.{ℕ, ◌+◌, ◌≤◌, ◌<◌}
 use native.Mathlib.Omega.{arith}
 use lib.Dec.{ltb, leb, eqb}
 use borrow.Author.Tests.{eq-eqb, ne_eqb}
+use Rattle.file_tables.specs.declared.Kind.{Kind}
+use Rattle.file_tables.specs.declared.Kind.TheVariants.{Group, Nest, Align, Choice, Annotate, Penalty}
+use Rattle.file_tables.specs.Kinds.{number_of}
 use Rattle.file_tables.specs.Tables.{kind, first, second, flat, flat_mark, flat_word}
 use Rattle.file_checks.specs.declared.Lengths.{Lengths}
 use Rattle.file_checks.specs.Told.{Told}
@@ -89,6 +93,28 @@ module _ (n : Lengths) (row : List ℕ) where
       edges : Ranged row → first row + second row ≤ n.edges
       edges (seq e) = absurd (k4 e)
       edges (fill e) = absurd (k6 e)
+
+  -- ---- the same by the kind itself
+
+  of_kind : {k : Kind} (k₁ : Kind) → number_of k ≡ kind row → k ≡ k₁ → kind row ≡ number_of k₁
+  of_kind k₁ e g = sym e ∙ ap number_of g
+
+  pub first_child : {k : Kind} → number_of k ≡ kind row → (k ≡ Group) ⊎ (k ≡ Align) → Told (KindNamed n row) (ltb (first row) n.nodes)
+  first_child e (inl g) = a_group (of_kind Group e g)
+  first_child e (inr g) = an_align (of_kind Align e g)
+
+  pub second_child : {k : Kind} → number_of k ≡ kind row → (k ≡ Nest) ⊎ (k ≡ Penalty) → Told (KindNamed n row) (ltb (second row) n.nodes)
+  second_child e (inl g) = a_nest (of_kind Nest e g)
+  second_child e (inr g) = a_penalty (of_kind Penalty e g)
+
+  pub no_first : {k : Kind} → number_of k ≡ kind row → k ≡ Choice → n.nodes ≤ first row → Told (KindNamed n row) (ltb (first row) n.nodes)
+  no_first e g h = let q = of_kind Choice e g in tell_lt _ _ (λ l. absurd (omega arith)) (λ k. k.child _ (preferred q))
+
+  pub both_children : {k : Kind} → number_of k ≡ kind row → k ≡ Choice → first row < n.nodes → Told (KindNamed n row) (ltb (second row) n.nodes)
+  both_children e g h = a_choice (of_kind Choice e g) h
+
+  pub annotated : {k : Kind} → number_of k ≡ kind row → k ≡ Annotate → first row < n.annotations → Told (KindNamed n row) (ltb (second row) n.nodes)
+  annotated e g h = an_annotate (of_kind Annotate e g) h
 
 -- ---- the flat node
 

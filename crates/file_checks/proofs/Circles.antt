@@ -3,18 +3,19 @@ use mathlib.Core.Path.{◌≡◌, refl, sym, ap, ◌∙◌, subst}
 use mathlib.Core.Bool.{true, false, true≢false, false≢true}
 use mathlib.Core.Logic.{◌⊎◌, inl, inr, ⊎_elim, by_cases}
 use mathlib.Core.List.{List, [], ◌∷◌}
-use Prim.Native.Nat.{ℕ, suc, ◌+◌, ◌≤◌, ◌<◌}
+use Prim.Native.Nat.{ℕ, suc, ◌+◌, ◌-◌, ◌≤◌, ◌<◌}
 use native.Mathlib.Omega.{arith}
 use native.Mathlib.Decide.{ℕ_discrete, dec_lt}
 use native.Mathlib.Numerals.{add-one}
 use lib.ListN.{length, get_or, take, drop, set, length-set, length-drop, drop_of_length-le, get_or-eq_default}
+use Rattle.std.proofs.Common.{replicate}
+use Rattle.std.proofs.lemmas.List.{get_or-replicate, length-replicate}
 use lib.Seq.{length-take-le, get_or-take, get_or-set_same, get_or-set_other, drop-cons, drop-set-lt}
 use Rattle.file_checks.specs.Told.{Told}
 use Rattle.file_checks.specs.Circle.{Refers, Leads, one, more, Circle}
 use Rattle.file_checks.specs.Search.{degree, target, node, taken, Row, Way, none, start, onward, Stands, here, later, Walking, unfinished, Went, TurnCase, Turned, Searched}
-use Rattle.file_checks.specs.Descent.{Ends, ends}
-use Rattle.file_checks.specs.declared.circle.Turn.{Turn}
-use Rattle.file_checks.specs.declared.circle.Turn.TheVariants.{Round, At}
+use Rattle.file_checks.specs.Descent.{Closed, Ends, ends}
+use Rattle.std.specs.Prelude.{Option, Some, None}
 use Rattle.file_checks.proofs.Enumerated.{nth_of, nth_refers}
 use Rattle.file_checks.proofs.Ways.{no_way_back}
 use Rattle.file_checks.proofs.White.{white_set, white_set_le, white_le, unseen_set, unseen_set_le}
@@ -187,47 +188,61 @@ module _ (t : List (List ℕ)) (e cs : List ℕ) (way : List (List ℕ)) (top : 
 
   -- a way on is to be told of the rows as they stand
   told : (ds : List ℕ) (on : List (List ℕ)) (place : ℕ) (below : List (List ℕ)) → place ≤ length on → drop place on ≡ below → Went t e cs (last ∷ rows) ds below
-      → Turned t e cs way top ds on (At place)
+      → Turned t e cs way top ds on (Some place)
   unfolding last rows
   told ds on place below h q w =
       record { case = (h, subst (λ (z : List (List ℕ)). Went t e cs (drop top way) ds z) (sym q) (subst (λ (z : List (List ℕ)). Went t e cs z ds below) (sym (drop-cons way top [] hw)) w)) }
 
-  pub turn_leave : degree t (node (get_or way top [])) ≤ taken (get_or way top []) → Turned t e cs way top (set cs (node (get_or way top [])) 2) way (At (top + 1))
+  pub turn_leave : degree t (node (get_or way top [])) ≤ taken (get_or way top []) → Turned t e cs way top (set cs (node (get_or way top [])) 2) way (Some (top + 1))
   unfolding last rows
   turn_leave h = told _ way (top + 1) rows (omega arith) (ap (λ (n : ℕ). drop n way) (add-one top)) (leave t e cs last rows opened h)
 
-  module _ (j : ℕ) (r : Refers t e (node (get_or way top [])) j) (hj : j < length t) where
-    pub turn_round : (ds : List ℕ) (on : List (List ℕ)) → get_or cs j 0 ≡ 1 → Turned t e cs way top ds on Round
+  -- the next reference, which is not past the last
+  module _ (closed : Closed t e) (d j : ℕ) (ed : d ≡ degree t (node (get_or way top []))) (hd : taken (get_or way top []) < d)
+      (ej : j ≡ target t e (node (get_or way top [])) (taken (get_or way top []))) where
+    r : Refers t e (node (get_or way top [])) j
+    r = refers t e (node (get_or way top [])) j d (taken (get_or way top [])) ed hd ej
+
+    hj : j < length t
+    hj = closed.within (node (get_or way top [])) j last_inside r
+
+    pub next_coloured : j < length cs
+    next_coloured = omega (arith, hj, u.enough)
+
+    pub turn_round : (ds : List ℕ) (on : List (List ℕ)) → get_or cs j 0 ≡ 1 → Turned t e cs way top ds on None
     unfolding last
     turn_round ds on q = record { case = round t e cs last rows opened j r q }
 
     -- there is a place for it
-    pub turn_place : length cs ≤ length way → get_or cs j 0 ≡ 0 → 0 < top
+    pub turn_place : length cs ≤ length way → get_or cs j 0 ≡ 0 → 1 ≤ top
     unfolding rows
     turn_place h z =
-        omega (arith, opened.room, length-drop (suc top) way, white_set cs j 1 (omega (arith, u.enough)) z (λ q. omega arith))
+        omega (arith, opened.room, length-drop (suc top) way, white_set cs j 1 (omega (arith, hj, u.enough)) z (λ q. omega arith))
 
-    pub turn_further : (place : ℕ) → suc place ≡ top → get_or cs j 0 ≡ 0 → Turned t e cs way top (set cs j 1) (set way place (j ∷ 0 ∷ [])) (At place)
+    pub turn_further : length cs ≤ length way → get_or cs j 0 ≡ 0 → Turned t e cs way top (set cs j 1) (set way (top - 1) (j ∷ 0 ∷ [])) (Some (top - 1))
     unfolding last rows
-    turn_further place q z =
-        told _ _ place _ (simp length-set (omega arith)) (written way place top (j ∷ 0 ∷ []) (omega arith) (sym q) ∙ ap (λ (x : List (List ℕ)). (j ∷ 0 ∷ []) ∷ x) (drop-cons way top [] hw))
+    turn_further h z =
+        let l : 1 ≤ top = turn_place h z in
+        let q : suc (top - 1) ≡ top = omega arith in
+        told _ _ (top - 1) _ (simp length-set (omega arith))
+        (written way (top - 1) top (j ∷ 0 ∷ []) (omega arith) (sym q) ∙ ap (λ (x : List (List ℕ)). (j ∷ 0 ∷ []) ∷ x) (drop-cons way top [] hw))
         (further t e cs last rows opened j r hj z)
 
   pub turn_skip : (i k j : ℕ) → i ≡ node (get_or way top []) → k ≡ taken (get_or way top []) + 1 → taken (get_or way top []) < degree t (node (get_or way top []))
-      → j ≡ target t e (node (get_or way top [])) (taken (get_or way top [])) → 1 < get_or cs j 0 → Turned t e cs way top cs (set way top (i ∷ k ∷ [])) (At top)
+      → j ≡ target t e (node (get_or way top [])) (taken (get_or way top [])) → 1 < get_or cs j 0 → Turned t e cs way top cs (set way top (i ∷ k ∷ [])) (Some top)
   unfolding last rows
   turn_skip i k j ei ek h ej l =
       told _ _ top _ (simp length-set (omega arith)) (written way top (suc top) (i ∷ k ∷ []) hw refl)
       (skip t e cs last rows opened (i ∷ k ∷ []) (sym ei) ek h (subst (λ (y : ℕ). 1 < get_or cs y 0) ej l))
 
 -- a turn that was told
-pub turned_round : {t : List (List ℕ)} {e cs : List ℕ} {way : List (List ℕ)} {top : ℕ} {ds : List ℕ} {on : List (List ℕ)} {r : Turn}
-    → Turned t e cs way top ds on r → r ≡ Round → Circle t e
-turned_round {t} {e} {cs} {way} {top} {ds} {on} v q = subst (λ (z : Turn). TurnCase t e cs way top ds on z) q v.case
+pub turned_round : {t : List (List ℕ)} {e cs : List ℕ} {way : List (List ℕ)} {top : ℕ} {ds : List ℕ} {on : List (List ℕ)} {r : Option ℕ}
+    → Turned t e cs way top ds on r → r ≡ None → Circle t e
+turned_round {t} {e} {cs} {way} {top} {ds} {on} v q = subst (λ (z : Option ℕ). TurnCase t e cs way top ds on z) q v.case
 
-pub turned_at : {t : List (List ℕ)} {e cs : List ℕ} {way : List (List ℕ)} {top : ℕ} {ds : List ℕ} {on : List (List ℕ)} {r : Turn} {place : ℕ}
-    → Turned t e cs way top ds on r → r ≡ At place → (place ≤ length on) × Went t e cs (drop top way) ds (drop place on)
-turned_at {t} {e} {cs} {way} {top} {ds} {on} v q = subst (λ (z : Turn). TurnCase t e cs way top ds on z) q v.case
+pub turned_at : {t : List (List ℕ)} {e cs : List ℕ} {way : List (List ℕ)} {top : ℕ} {ds : List ℕ} {on : List (List ℕ)} {r : Option ℕ} {place : ℕ}
+    → Turned t e cs way top ds on r → r ≡ Some place → (place ≤ length on) × Went t e cs (drop top way) ds (drop place on)
+turned_at {t} {e} {cs} {way} {top} {ds} {on} v q = subst (λ (z : Option ℕ). TurnCase t e cs way top ds on z) q v.case
 
 -- ---- the search from a node
 
@@ -293,17 +308,20 @@ module _ (t : List (List ℕ)) (e : List ℕ) where
       done x l = let a = u.seen x (omega arith) in let b : get_or cs x 0 ≡ 1 → ⊥ = λ q. none_stands (u.over.grey x q) in omega arith
 
   -- before the first: a colour 0 for each node
-  pub cleared : (cs : List ℕ) → length t ≤ length cs → ((x : ℕ) → get_or cs x 0 ≡ 0) → Walking t e (take (length t) cs) []
-  cleared cs h z =
+  pub cleared : (cs : List ℕ) (n : ℕ) → length t ≤ n → cs ≡ replicate n 0 → Walking t e (take (length t) cs) []
+  cleared cs n h z =
       record {
-        enough = omega (arith, length-take-le (length t) cs h);
+        enough = omega (arith, len);
         done = λ x l. absurd (omega (arith, all x));
         way = none;
         grey = λ x q. absurd (omega (arith, all x));
         room = omega (arith, white_le (take (length t) cs));
       }
     where
+      len : length (take (length t) cs) ≡ length t
+      len = length-take-le (length t) cs (rw z (simp length-replicate h))
+
       all : (x : ℕ) → get_or (take (length t) cs) x 0 ≡ 0
       all x =
-          by_cases (dec_lt x (length t)) (λ l. get_or-take (length t) cs x 0 l ∙ z x)
-          (λ l. get_or-eq_default (take (length t) cs) 0 (omega (arith, length-take-le (length t) cs h)))
+          by_cases (dec_lt x (length t)) (λ l. get_or-take (length t) cs x 0 l ∙ rw z (get_or-replicate n x 0 0 (omega arith)))
+          (λ l. get_or-eq_default (take (length t) cs) 0 (omega (arith, len)))

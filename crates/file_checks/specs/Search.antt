@@ -1,11 +1,9 @@
 -- Definitions that only the contracts of inner functions cite: how the searches for a circle and along a choice list go.
-use Rattle.std.specs.Prelude.{ℕ, zero, suc, ◌+◌, ◌-◌, ◌≤◌, ◌<◌, ◌≡◌, List, [], ◌∷◌, Bool, true, false, length, get_or, drop, leb, eqb}
+use Rattle.std.specs.Prelude.{ℕ, zero, suc, ◌+◌, ◌-◌, ◌≤◌, ◌<◌, ◌≡◌, List, [], ◌∷◌, Bool, true, false, length, get_or, drop, leb, eqb, Option, Some, None}
 use Rattle.file_tables.specs.Tables.{kind, first, second, flat_mark, flat_word, choice_start, choice_length, skipped}
 use Rattle.file_checks.specs.Circle.{Refers, Circle}
 use Rattle.file_checks.specs.Descent.{Ends}
 use Rattle.file_checks.specs.Choice.{two, choice_list, ListsRight}
-use Rattle.file_checks.specs.declared.circle.Turn.{Turn}
-use Rattle.file_checks.specs.declared.circle.Turn.TheVariants.{Round, At}
 
 abbrev pub pick : Bool → ℕ → ℕ → ℕ
 pick true a b = a
@@ -99,11 +97,11 @@ pub record Went (nodes : List (List ℕ)) (edges cs : List ℕ) (rows : List (Li
   pub fewer : turns nodes ds others < turns nodes cs rows
 
 -- what a turn comes to. The rows stand in `way` from `top` on, afterwards in `on` from the place that is told
-abbrev pub TurnCase : List (List ℕ) → List ℕ → List ℕ → List (List ℕ) → ℕ → List ℕ → List (List ℕ) → Turn → Type 0
-TurnCase nodes edges cs way top ds on Round = Circle nodes edges
-TurnCase nodes edges cs way top ds on (At place) = (place ≤ length on) × Went nodes edges cs (drop top way) ds (drop place on)
+abbrev pub TurnCase : List (List ℕ) → List ℕ → List ℕ → List (List ℕ) → ℕ → List ℕ → List (List ℕ) → Option ℕ → Type 0
+TurnCase nodes edges cs way top ds on None = Circle nodes edges
+TurnCase nodes edges cs way top ds on (Some place) = (place ≤ length on) × Went nodes edges cs (drop top way) ds (drop place on)
 
-pub record Turned (nodes : List (List ℕ)) (edges cs : List ℕ) (way : List (List ℕ)) (top : ℕ) (ds : List ℕ) (on : List (List ℕ)) (turn : Turn) : Type 0 where
+pub record Turned (nodes : List (List ℕ)) (edges cs : List ℕ) (way : List (List ℕ)) (top : ℕ) (ds : List ℕ) (on : List (List ℕ)) (turn : Option ℕ) : Type 0 where
   pub case : TurnCase nodes edges cs way top ds on turn
 
 -- what a search from a node finds: a circle, or no way is left and the node is seen

@@ -28,7 +28,8 @@ fn list_right(
     let mut sp = stack.len() - 2;
     stack[sp + 1] = second;
     stack[sp] = first;
-    let mut at: usize = 0;
+    let mut at = 0;
+    // A while loop: a turn that replaces a Choice stays at its place in the list.
     while at < xs.len() {
         if sp == stack.len() {
             return false;
@@ -38,10 +39,7 @@ fn list_right(
             sp += 1;
             at += 1;
         } else {
-            if left == 0 {
-                return false;
-            }
-            if node_word(nodes, y as usize, 0) != 9 {
+            if left == 0 || node_word(nodes, y as usize, 0) != 9 {
                 return false;
             }
             stack[sp] = node_word(nodes, y as usize, 2);
@@ -59,13 +57,17 @@ fn row_right(nodes: &[[u32; 8]], row: [u32; 8], choices: &[u32], stack: &mut [u3
     requires choices_in_bounds { length choices.now ≤ length stack.old }
     ensures { Told (RowRight nodes.now choices.now row) result }
 {
-    let len = row[6] as usize;
-    if len == 0 {
-        return true;
-    }
     let start = row[5] as usize;
-    let end = start + len;
-    list_right(nodes, row[1], row[2], row[7], &choices[start..end], stack)
+    let len = row[6] as usize;
+    len == 0
+        || list_right(
+            nodes,
+            row[1],
+            row[2],
+            row[7],
+            &choices[start..start + len],
+            stack,
+        )
 }
 
 // `stack` has a place for each choice edge; what stands there at entry does not matter.
@@ -75,12 +77,10 @@ pub fn lists_right(nodes: &[[u32; 8]], choices: &[u32], stack: &mut [u32]) -> bo
     requires choices_in_bounds { length choices.now ≤ length stack.old }
     ensures { Told (ListsRight nodes.now choices.now) result }
 {
-    let mut i: usize = 0;
-    while i < nodes.len() {
-        if !row_right(nodes, nodes[i], choices, stack) {
+    for row in nodes {
+        if !row_right(nodes, *row, choices, stack) {
             return false;
         }
-        i += 1;
     }
     true
 }

@@ -9,38 +9,26 @@ use file_utf8::well_formed;
 fn no_newline(text: &[u8]) -> bool
     ensures { Told (NoNewline text.now) result }
 {
-    let mut k: usize = 0;
-    while k < text.len() {
-        if text[k] == 10 {
-            return false;
-        }
-        k += 1;
-    }
-    true
+    !text.contains(&b'\n')
 }
 
 // Whether a text follows its own rule.
 pub fn text_ok(text: &[u8]) -> bool
     ensures { Told (TextOk text.now) result }
 {
-    if !no_newline(text) {
-        return false;
-    }
-    well_formed(text)
+    no_newline(text) && well_formed(text)
 }
 
 pub fn texts_ok(texts: &[[u32; 3]], bytes: &[u8]) -> bool
     requires { Inside texts.now bytes.now }
     ensures { Told (TextsOk texts.now bytes.now) result }
 {
-    let mut i: usize = 0;
-    while i < texts.len() {
-        let start = text_word(texts, i, 2) as usize;
-        let end = start + text_word(texts, i, 1) as usize;
+    for row in texts {
+        let start = row[2] as usize;
+        let end = start + row[1] as usize;
         if !text_ok(&bytes[start..end]) {
             return false;
         }
-        i += 1;
     }
     true
 }
@@ -51,12 +39,7 @@ pub fn space_ok(texts: &[[u32; 3]], bytes: &[u8], space: TextId) -> bool
     ensures { Told (SpaceOk texts.now bytes.now space.0) result }
 {
     let i = space.0 as usize;
-    if text_word(texts, i, 0) != 1 {
-        return false;
-    }
-    if text_word(texts, i, 1) != 1 {
-        return false;
-    }
-    let start = text_word(texts, i, 2) as usize;
-    bytes[start] == 32
+    text_word(texts, i, 0) == 1
+        && text_word(texts, i, 1) == 1
+        && bytes[text_word(texts, i, 2) as usize] == b' '
 }

@@ -1,41 +1,16 @@
 -- Laws for this crate's functions.
-use mathlib.Core.Path.{◌≡◌, refl, ap, ◌∙◌}
+use mathlib.Core.Path.{◌≡◌}
 use mathlib.Core.Bool.{true, false}
-use mathlib.Core.Logic.{by_cases}
 use mathlib.Core.List.{List, []}
-use Prim.Native.Nat.{ℕ, zero, suc, ◌+◌, ◌*◌, ◌≤◌, ◌<◌}
-use native.Mathlib.Omega.{arith}
-use native.Mathlib.Decide.{ℕ_discrete}
+use Prim.Native.Nat.{ℕ, ◌+◌, ◌≤◌, ◌<◌}
 use native.Mathlib.Numerals.{add-one}
 use lib.ListN.{length, get_or, drop, drop_of_length-le}
 use lib.Seq.{drop-cons}
 use borrow.Author.Tests.{eq-eqb, ne_eqb, le-leb, lt-leb}
-use Rattle.file_tables.specs.Tables.{first, second, choice_start, choice_length, skipped, byte_length, byte_start}
-use Rattle.file_encode.specs.Encode.{present, marked, flag, map_of, node_map, Wide}
-use Rattle.file_encode.specs.Faults.{or_else, node_is_right, nodes_fault, texts_fault}
-
--- ---- map bytes
-
-pub node_map_is : (row : List ℕ) (a b c d e f : ℕ)
-    → a ≡ flag (present (first row)) → b ≡ flag (present (second row)) → c ≡ flag (marked row)
-    → d ≡ flag (present (choice_start row)) → e ≡ flag (present (choice_length row)) → f ≡ flag (present (skipped row))
-    → a + b * 2 + c * 4 + d * 8 + e * 16 + f * 32 ≡ node_map row
-unfolding node_map map_of
-node_map_is row a b c d e f ea eb ec ed ee ef = rw (ea, eb, ec, ed, ee, ef) (omega arith)
-
--- ---- widths
-
-pub wide_on : (w : ℕ) (rows : List (List ℕ)) (i : ℕ) → Wide w rows i → length (get_or rows i []) ≡ w → Wide w rows (i + 1)
-wide_on w rows i h e k l = by_cases (ℕ_discrete k i) (λ q. ap (λ (x : ℕ). length (get_or rows x [])) q ∙ e) (λ n. h k (omega arith))
-
-pub wide_all : (w : ℕ) (rows : List (List ℕ)) (i : ℕ) → Wide w rows i → length rows ≤ i → Wide w rows (length rows)
-wide_all w rows i h l k q = h k (omega arith)
+use Rattle.file_tables.specs.Tables.{byte_length, byte_start}
+use Rattle.file_encode.specs.Faults.{node_is_right, nodes_fault, texts_fault}
 
 -- ---- faults, in order
-
-pub or_second : (a b : ℕ) → (a ≡ 0 → ⊥) → a ≡ or_else a b
-or_second zero b n = absurd (n refl)
-or_second (suc a) b n = refl
 
 pub nodes_wrong : (rows : List (List ℕ)) (i : ℕ) → i < length rows → node_is_right (get_or rows i []) ≡ false → nodes_fault (drop i rows) ≡ 3
 unfolding nodes_fault

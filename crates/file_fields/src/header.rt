@@ -2,7 +2,7 @@
 ghost use Rattle.std.specs.Prelude.{◌≡◌};
 ghost use Rattle.file_fields.specs.Header.{header_at};
 
-use crate::{Step, byte_at, count_at, field_at, formed};
+use crate::{START, Step, byte_at, count_at, field_at, formed};
 
 // The header's numbers, and the step after it.
 #[derive(Clone, Copy)]
@@ -20,17 +20,7 @@ pub struct Header {
 pub fn header_at(s: &[u8]) -> Header
     ensures { result ≡ header_at s.now }
 {
-    let map = formed(
-        127,
-        byte_at(
-            s,
-            Step {
-                value: 0,
-                at: 0,
-                fault: 0,
-            },
-        ),
-    );
+    let map = formed(127, byte_at(s, START));
     let m = map.value;
     let nodes = count_at(s, m / 1 % 2 == 1, 1, 4096, map);
     let edges = count_at(s, m / 2 % 2 == 1, 0, 16384, nodes);

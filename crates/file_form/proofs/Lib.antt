@@ -1,4 +1,3 @@
-pub mod Which
 pub mod Lists
 pub mod Turns
 pub mod Spans

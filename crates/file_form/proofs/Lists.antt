@@ -1,11 +1,10 @@
 -- Laws on lists that several proofs cite.
-use mathlib.Core.Path.{◌≡◌, sym, ap, ◌∙◌, subst}
+use mathlib.Core.Path.{◌≡◌, sym, ap, ◌∙◌}
 use mathlib.Core.List.{List, ◌++◌, append_assoc, append-nil}
-use Prim.Native.Nat.{ℕ, suc, ◌+◌, ◌-◌, ◌≤◌, ◌<◌}
+use Prim.Native.Nat.{ℕ, ◌+◌, ◌-◌, ◌≤◌}
 use native.Mathlib.Omega.{arith}
-use native.Mathlib.Numerals.{add-one}
-use lib.ListN.{length, take, drop, get_or, set, length-append, length-drop, drop_of_length-le}
-use lib.Seq.{sets, length-sets, sets-eq, take_at, take_all, drop-drop, length-take-le, take-length, paste, paste-suc, length-paste}
+use lib.ListN.{length, take, drop, length-append, length-drop, drop_of_length-le}
+use lib.Seq.{sets, length-sets, sets-eq, take_at, take_all, drop-drop, length-take-le}
 
 -- what a run of stores leaves at the front
 pub take_sets : (l vs : List ℕ) (i n : ℕ) → n ≡ i + length vs → n ≤ length l → take n (sets l i vs) ≡ take i l ++ vs
@@ -14,18 +13,6 @@ take_sets l vs i n e h =
     let h₂ : i ≤ length l = omega arith in
     let k : length (take i l ++ vs) ≡ n = length-append (take i l) vs ∙ ap (λ (m : ℕ). m + length vs) (length-take-le i l h₂) ∙ sym e in
     rw (sets-eq vs l i h₁) (take_at (take i l ++ vs) (drop (i + length vs) l) n k)
-
--- a copy to the front, one byte further, at its end, and its length
-pub copied_more : (d s : List ℕ) (i : ℕ) → i < length s → length s ≤ length d → set (paste d 0 s i) i (get_or s i 0) ≡ paste d 0 s (i + 1)
-copied_more d s i h l =
-    let e : 0 + i ≡ i = omega arith in
-    rw (add-one i) (subst (λ (k : ℕ). set (paste d 0 s i) k (get_or s i 0) ≡ paste d 0 s (suc i)) e (paste-suc d 0 s i 0 (omega arith) h))
-
-pub copied_length : (d s : List ℕ) (i : ℕ) → i ≤ length s → length s ≤ length d → length (paste d 0 s i) ≡ length d
-copied_length d s i h l = length-paste d 0 s i (omega arith) h
-
-pub copied : (d s : List ℕ) (i : ℕ) → i ≡ length s → paste d 0 s i ≡ s ++ drop (length s) d
-copied d s i e = let z : 0 + length s ≡ length s = omega arith in rw (e, take-length s, z)
 
 -- a part from a place on, given back with src at its front, is a run of stores
 pub put_back :

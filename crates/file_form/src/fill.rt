@@ -49,21 +49,17 @@ pub fn fill(
     let u = numbers_at(s, r, h.choices as usize, choices);
     let v = texts_at(s, u, h.texts as usize, texts, bytes);
     let w = surplus(s, v.next);
-    let root = NodeId(h.root);
-    let space = TextId(h.space);
-    let total = v.total as u32;
-    let counts = Counts {
-        nodes: h.nodes,
-        edges: h.edges,
-        choices: h.choices,
-        texts: h.texts,
-        bytes: total,
-        annotations: h.annotations,
-        root: root,
-        space: space,
-    };
     Filled {
-        counts: counts,
+        counts: Counts {
+            nodes: h.nodes,
+            edges: h.edges,
+            choices: h.choices,
+            texts: h.texts,
+            bytes: v.total as u32,
+            annotations: h.annotations,
+            root: NodeId(h.root),
+            space: TextId(h.space),
+        },
         fault: w.fault,
     }
 }

@@ -3,7 +3,7 @@ ghost use Rattle.std.specs.Prelude.{◌≡◌, ◌≤◌, length, take};
 ghost use Rattle.file_form.specs.Nodes.{checked, map_at, kind_at, node_at, after_nodes, read_node_rows};
 
 use crate::kinds::{map_right, pair_right};
-use file_fields::{Step, byte_at, field_at, number_at};
+use file_fields::{Step, byte_at, field_at, number_at, refused};
 
 // A node's row, and the step after its record.
 #[derive(Clone, Copy)]
@@ -13,20 +13,14 @@ pub struct Node {
 }
 
 // A byte that is right, or form (3).
+#[tactic(auto, using(std::proofs::lemmas::Bool::Decides::nat_tests), unfolding(crate::specs::Nodes::checked))]
 fn checked(ok: bool, f: Step) -> Step
     ensures { result ≡ checked ok f }
 {
-    if f.fault != 0 {
+    if f.fault != 0 || ok {
         return f;
     }
-    if ok {
-        return f;
-    }
-    Step {
-        value: 0,
-        at: f.at,
-        fault: 3,
-    }
+    refused(3, f.at)
 }
 
 fn map_at(s: &[u8], p: Step) -> Step
@@ -70,18 +64,16 @@ pub fn node_at(s: &[u8], p: Step) -> Node
     }
 }
 
+#[tactic(auto, using(crate::proofs::Turns::node_turn), unfolding(crate::specs::Nodes::after_nodes, crate::specs::Nodes::read_node_rows))]
 pub fn nodes_at(s: &[u8], p: Step, count: usize, t: &mut [[u32; 8]]) -> Step
     requires { count ≤ length t.old }
     ensures { (result ≡ after_nodes s.now p count) × (take count t.new ≡ read_node_rows s.now p count) }
 {
     let mut q = p;
-    let mut i: usize = 0;
-    while i < count {
-        let n = node_at(s, q);
-        let row = n.row;
-        t[i] = row;
-        q = n.next;
-        i += 1;
+    for row in &mut t[..count] {
+        let Node { row: read, next } = node_at(s, q);
+        *row = read;
+        q = next;
     }
     q
 }

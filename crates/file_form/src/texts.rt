@@ -3,7 +3,7 @@ ghost use Rattle.std.specs.Prelude.{◌≡◌, ◌++◌, ◌+◌, ◌≤◌, len
 ghost use Rattle.std.proofs.lemmas.List.Edits.{sets};
 ghost use Rattle.file_form.specs.Texts.{totalled, span_at, text_head, after_texts, read_text_rows, text_bytes};
 
-use file_fields::{Step, byte_at, field_at, formed};
+use file_fields::{Step, byte_at, field_at, formed, refused};
 
 // A text's display width, and the step after its length.
 #[derive(Clone, Copy)]
@@ -20,24 +20,17 @@ pub struct Run {
 }
 
 // The sum is 64 bits wide, so that no length makes it wrap.
+#[tactic(auto, using(std::proofs::lemmas::Bool::Decides::nat_tests), unfolding(crate::specs::Texts::totalled))]
 fn totalled(total: usize, f: Step) -> Step
     requires { total ≤ 65536 }
     ensures { result ≡ totalled total f }
 {
     if f.fault != 0 {
-        return Step {
-            value: 0,
-            at: f.at,
-            fault: f.fault,
-        };
+        return refused(f.fault, f.at);
     }
     let sum = total + f.value as usize;
     if 65536 < sum {
-        return Step {
-            value: 0,
-            at: f.at,
-            fault: 4,
-        };
+        return refused(4, f.at);
     }
     f
 }
@@ -52,7 +45,7 @@ fn text_head(s: &[u8], total: usize, p: Step) -> Head
     let len = totalled(total, field_at(s, m / 2 % 2 == 1, width));
     Head {
         width: width.value,
-        len: len,
+        len,
     }
 }
 
@@ -61,11 +54,7 @@ pub fn copy(src: &[u8], dst: &mut [u8])
     requires { length src.now ≤ length dst.old }
     ensures { dst.new ≡ src.now ++ drop (length src.now) dst.old }
 {
-    let mut i: usize = 0;
-    while i < src.len() {
-        dst[i] = src[i];
-        i += 1;
-    }
+    dst[..src.len()].copy_from_slice(src);
 }
 
 fn text_bytes(s: &[u8], l: Step, total: usize, bytes: &mut [u8]) -> Step
@@ -73,27 +62,12 @@ fn text_bytes(s: &[u8], l: Step, total: usize, bytes: &mut [u8]) -> Step
     ensures { (result ≡ span_at s.now l) × (bytes.new ≡ sets bytes.old total (take (span_at s.now l).value (drop l.at s.now))) }
 {
     if l.fault != 0 {
-        return Step {
-            value: 0,
-            at: l.at,
-            fault: l.fault,
-        };
+        return refused(l.fault, l.at);
     }
     let from = l.at;
     let n = l.value as usize;
-    if s.len() < from {
-        return Step {
-            value: 0,
-            at: from,
-            fault: 2,
-        };
-    }
-    if s.len() - from < n {
-        return Step {
-            value: 0,
-            at: from,
-            fault: 2,
-        };
+    if s.len() < from || s.len() - from < n {
+        return refused(2, from);
     }
     let end = from + n;
     copy(&s[from..end], &mut bytes[total..]);
@@ -109,18 +83,12 @@ pub fn texts_at(s: &[u8], p: Step, count: usize, t: &mut [[u32; 3]], bytes: &mut
     ensures { (result ≡ after_texts s.now p count) × ((take count t.new ≡ read_text_rows s.now p count) × (take result.total bytes.new ≡ text_bytes s.now p count)) }
 {
     let mut q = p;
-    let mut total: usize = 0;
-    let mut i: usize = 0;
-    while i < count {
+    let mut total = 0;
+    for row in &mut t[..count] {
         let h = text_head(s, total, q);
-        let e = text_bytes(s, h.len, total, bytes);
-        t[i] = [h.width, e.value, total as u32];
-        total = total + e.value as usize;
-        q = e;
-        i += 1;
+        q = text_bytes(s, h.len, total, bytes);
+        *row = [h.width, q.value, total as u32];
+        total += q.value as usize;
     }
-    Run {
-        total: total,
-        next: q,
-    }
+    Run { total, next: q }
 }

@@ -1,17 +1,18 @@
 -- Laws for this crate's functions: bytes that are put one after the other.
 use mathlib.Core.Path.{◌≡◌, refl, sym, ap, ◌∙◌}
-use mathlib.Core.Bool.{Bool, true, false}
 use mathlib.Core.List.{List, [], ◌∷◌, ◌++◌}
 use Prim.Native.Nat.{ℕ, suc, ◌+◌, ◌-◌, ◌*◌, ◌≤◌, ◌<◌}
 use native.Mathlib.Omega.{arith}
 use native.Mathlib.Numerals.{add-one}
 use lib.ListN.{length, get_or, take, drop, set, length-append, length-drop}
-use lib.Seq.{take-suc, take_all, length-take-le, sets, length-sets}
+use lib.Seq.{take-suc, take_all, length-take-le, sets}
 use lib.Dec.{ltb}
 use borrow.Author.Tests.{ltb-true}
 use Rattle.file_tables.specs.Tables.{kind, first, second, flat_word, choice_start, choice_length, skipped, width, byte_length, tables}
-use Rattle.file_encode.specs.Encode.{present, marked, flag, map_of, node_map, text_map, header_map, enc32, enc_if, enc_field, enc_header, enc_node, enc_text, enc_texts, each, lengths, encode}
+use Rattle.file_encode.specs.Encode.{marked, node_map, text_map, header_map, enc32, enc_if, enc_field, enc_header, enc_node, enc_text, enc_texts, each, lengths, encode}
 use Rattle.file_encode.specs.Faults.{node_is_right, nodes_fault}
+use Rattle.std.specs.List.{sum_by}
+use Rattle.std.proofs.lemmas.List.Recursion.{is_sum_by}
 use Rattle.file_put.specs.Put.{Put}
 use Rattle.file_encode.specs.Trips.{Right}
 use Rattle.file_encode.specs.TextTrip.{texts_total}
@@ -26,13 +27,6 @@ pub sets_append : (l a b : List ℕ) (i j : ℕ) → j ≡ i + length a → sets
 sets_append l [] b i j e = let e' : j ≡ i = omega arith in rw e'
 sets_append l (x ∷ a) b i j e = sets_append (set l i x) a b (suc i) j (omega arith)
 
-pub sets4 : (l : List ℕ) (i a b c d : ℕ) → set (set (set (set l i a) (i + 1) b) (i + 2) c) (i + 3) d ≡ sets l i (a ∷ b ∷ c ∷ d ∷ [])
-sets4 l i a b c d =
-    let e₁ : i + 1 ≡ suc i = omega arith in
-    let e₂ : i + 2 ≡ suc (suc i) = omega arith in
-    let e₃ : i + 3 ≡ suc (suc (suc i)) = omega arith in
-    rw (e₁, e₂, e₃)
-
 -- one part of a file after another
 pub and_then : {o o₁ o₂ a b : List ℕ} {i j k : ℕ} → Put o o₁ i j a → Put o₁ o₂ j k b → Put o o₂ i k (a ++ b)
 and_then {o = o} {a = a} {b = b} {i = i} {j = j} p q =
@@ -41,36 +35,12 @@ and_then {o = o} {a = a} {b = b} {i = i} {j = j} p q =
       next = omega (arith, p.next, q.next, length-append a b);
     }
 
--- nothing, one byte, four bytes
+-- nothing, one byte
 pub none : (o : List ℕ) (i : ℕ) → Put o o i i []
 none o i = record { bytes = refl; next = omega arith }
 
 pub one : (o o₁ : List ℕ) (i a : ℕ) → o₁ ≡ set o i a → Put o o₁ i (i + 1) (a ∷ [])
 one o o₁ i a p = record { bytes = p; next = omega arith }
-
-pub four : (o o₁ o₂ o₃ o₄ : List ℕ) (i a b c d : ℕ) → o₁ ≡ set o i a → o₂ ≡ set o₁ (i + 1) b → o₃ ≡ set o₂ (i + 2) c → o₄ ≡ set o₃ (i + 3) d
-    → Put o o₄ i (i + 4) (a ∷ b ∷ c ∷ d ∷ [])
-four o o₁ o₂ o₃ o₄ i a b c d p q r s = record { bytes = rw (s, r, q, p) (sets4 o i a b c d); next = omega arith }
-
-pub if_on : (o o₁ : List ℕ) (at r v : ℕ) (on : Bool) → on ≡ true → Put o o₁ at r (enc32 v) → Put o o₁ at r (enc_if on v) × (r ≤ at + 4)
-if_on o o₁ at r v on e p = rw e (p, omega (arith, p.next))
-
-pub if_off : (o : List ℕ) (at v : ℕ) (on : Bool) → on ≡ false → Put o o at at (enc_if on v) × (at ≤ at + 4)
-if_off o at v on e = rw e (none o at, omega arith)
-
-pub put_length : {o o₁ e : List ℕ} {i r : ℕ} → Put o o₁ i r e → length o₁ ≡ length o
-put_length {o} {o₁} {e} {i} p = ap length p.bytes ∙ length-sets o i e
-
-pub text_map_is : (row : List ℕ) (a b : ℕ) → a ≡ flag (present (width row)) → b ≡ flag (present (byte_length row)) → a + b * 2 ≡ text_map row
-unfolding text_map map_of
-text_map_is row a b ea eb = rw (ea, eb) (omega arith)
-
-pub header_map_is : (n e x a c r w f₁ f₂ f₃ f₄ f₅ f₆ f₇ : ℕ)
-    → f₁ ≡ flag (present n) → f₂ ≡ flag (present e) → f₃ ≡ flag (present x) → f₄ ≡ flag (present a)
-    → f₅ ≡ flag (present c) → f₆ ≡ flag (present r) → f₇ ≡ flag (present w)
-    → f₁ + f₂ * 2 + f₃ * 4 + f₄ * 8 + f₅ * 16 + f₆ * 32 + f₇ * 64 ≡ header_map n e x a c r w
-unfolding header_map map_of
-header_map_is n e x a c r w f₁ f₂ f₃ f₄ f₅ f₆ f₇ e₁ e₂ e₃ e₄ e₅ e₆ e₇ = rw (e₁, e₂, e₃, e₄, e₅, e₆, e₇) (omega arith)
 
 -- a node's bytes: two bytes, then six fields
 pub node_put : (row : List ℕ) (o o₁ o₂ : List ℕ) (at m : ℕ) {o₃ o₄ o₅ o₆ o₇ o₈ : List ℕ} {a b c d e r : ℕ}
@@ -199,5 +169,6 @@ tables_put ns es xs ts bs a r w f₁ f₂ f₃ f₄ f₅ g l =
       omega (arith, f₁.1, f₂.1, f₃.1, f₄.1, f₅.1, k, l, i.nodes_high, i.edges_high, i.choices_high, i.texts_high),
     )
 
-pub total_turn : (rows : List (List ℕ)) (i total len : ℕ) → total ≡ lengths (take i rows) → len ≡ byte_length (get_or rows i []) → i < length rows → total + len ≡ lengths (take (i + 1) rows)
-total_turn rows i total len et el h = rw (add-one i, et, el) (sym (lengths_suc rows i h))
+pub lengths_sum : (rows : List (List ℕ)) → lengths rows ≡ sum_by byte_length rows
+unfolding lengths
+lengths_sum rows = is_sum_by lengths byte_length refl (λ _ _. refl) rows

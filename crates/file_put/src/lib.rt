@@ -7,7 +7,7 @@ ghost use Rattle.file_put.specs.Put.{Put};
 ghost use Rattle.file_encode.specs.Encode.{enc32, enc_if, header_map, enc_header, enc_node, text_map, enc_text, enc_texts, each, lengths, encode};
 ghost use Rattle.file_encode.specs.Faults.{nodes_fault, texts_fault, tables_fault};
 
-use file_encode::faults::{flag, long, node_map};
+use file_encode::faults::node_map;
 
 fn put(out: &mut [u8], at: usize, b: u8)
     ensures { out.new ≡ set out.old at b }
@@ -17,25 +17,28 @@ fn put(out: &mut [u8], at: usize, b: u8)
     }
 }
 
+fn put_bytes(out: &mut [u8], at: usize, part: &[u8]) -> usize
+    requires { (at ≤ 1000000) × (length part.now ≤ 65536) }
+    ensures { Put out.old out.new at result part.now }
+{
+    for (i, b) in part.iter().enumerate() {
+        put(out, at + i, *b);
+    }
+    at + part.len()
+}
+
 fn put_word(out: &mut [u8], at: usize, v: u32) -> usize
     requires { at ≤ 1000000 }
     ensures { Put out.old out.new at result (enc32 v) }
 {
-    put(out, at, (v % 256) as u8);
-    put(out, at + 1, (v / 256 % 256) as u8);
-    put(out, at + 2, (v / 65536 % 256) as u8);
-    put(out, at + 3, (v / 16777216) as u8);
-    at + 4
+    put_bytes(out, at, &v.to_le_bytes())
 }
 
 fn put_if(out: &mut [u8], at: usize, on: bool, v: u32) -> usize
     requires { at ≤ 1000000 }
     ensures { Put out.old out.new at result (enc_if on v) × (result ≤ at + 4) }
 {
-    if on {
-        return put_word(out, at, v);
-    }
-    at
+    if on { put_word(out, at, v) } else { at }
 }
 
 fn put_node(out: &mut [u8], at: usize, row: [u32; 8]) -> usize
@@ -53,51 +56,35 @@ fn put_node(out: &mut [u8], at: usize, row: [u32; 8]) -> usize
     put_if(out, e, 0 < row[7], row[7])
 }
 
+#[tactic(auto, using(crate::proofs::Laws::kind_byte, crate::proofs::Laws::none), unfolding(file_encode::specs::Encode::each))]
 fn put_nodes(out: &mut [u8], at: usize, nodes: &[[u32; 8]]) -> usize
     requires { (at ≤ 100) × ((length nodes.now ≤ 4096) × (nodes_fault nodes.now ≡ 0)) }
     ensures { Put out.old out.new at result (each enc_node nodes.now) × (result ≤ at + 26 * length nodes.now) }
 {
     let mut next = at;
-    let mut i: usize = 0;
-    while i < nodes.len() {
-        let row = nodes[i];
-        next = put_node(out, next, row);
-        i += 1;
+    for row in nodes {
+        next = put_node(out, next, *row);
     }
     next
 }
 
+#[tactic(auto, using(crate::proofs::Laws::none), unfolding(file_encode::specs::Encode::each))]
 fn put_numbers(out: &mut [u8], at: usize, xs: &[u32]) -> usize
     requires { (at ≤ 300000) × (length xs.now ≤ 16384) }
     ensures { Put out.old out.new at result (each enc32 xs.now) × (result ≤ at + 4 * length xs.now) }
 {
     let mut next = at;
-    let mut i: usize = 0;
-    while i < xs.len() {
-        next = put_word(out, next, xs[i]);
-        i += 1;
+    for x in xs {
+        next = put_word(out, next, *x);
     }
     next
 }
 
-fn put_bytes(out: &mut [u8], at: usize, part: &[u8]) -> usize
-    requires { (at ≤ 900000) × (length part.now ≤ 65536) }
-    ensures { Put out.old out.new at result part.now }
-{
-    let mut i: usize = 0;
-    while i < part.len() {
-        put(out, at + i, part[i]);
-        i += 1;
-    }
-    at + i
-}
-
+#[tactic(auto, unfolding(file_encode::specs::Encode::text_map, file_encode::specs::Encode::map_of))]
 fn text_map(row: [u32; 3]) -> u32
     ensures { (result ≡ text_map row) × (result ≤ 3) }
 {
-    let a = flag(0 < row[0]);
-    let b = flag(0 < row[1]);
-    a + b * 2
+    u32::from(0 < row[0]) + u32::from(0 < row[1]) * 2
 }
 
 fn put_text(out: &mut [u8], at: usize, row: [u32; 3], part: &[u8]) -> usize
@@ -111,35 +98,32 @@ fn put_text(out: &mut [u8], at: usize, row: [u32; 3], part: &[u8]) -> usize
     put_bytes(out, b, part)
 }
 
+#[tactic(auto, using(crate::proofs::Laws::none), unfolding(file_encode::specs::Encode::enc_texts, file_encode::specs::Encode::lengths))]
 fn put_texts(out: &mut [u8], at: usize, texts: &[[u32; 3]], bytes: &[u8]) -> usize
     requires { (at ≤ 400000) × ((length texts.now ≤ 4096) × ((texts_fault 0 texts.now ≡ 0) × (length bytes.now ≡ lengths texts.now))) }
     ensures { Put out.old out.new at result (enc_texts texts.now bytes.now) × (result ≤ at + 9 * length texts.now + length bytes.now) }
 {
     let mut next = at;
-    let mut total: usize = 0;
-    let mut i: usize = 0;
-    while i < texts.len() {
-        let row = texts[i];
-        let len = long(row[1]);
-        let end = total + len;
-        next = put_text(out, next, row, &bytes[total..end]);
+    let mut total = 0;
+    for row in texts {
+        let end = total + row[1] as usize;
+        next = put_text(out, next, *row, &bytes[total..end]);
         total = end;
-        i += 1;
     }
     next
 }
 
+#[tactic(auto, unfolding(file_encode::specs::Encode::header_map, file_encode::specs::Encode::map_of))]
 fn header_map(n: u32, e: u32, x: u32, a: u32, c: u32, r: u32, w: u32) -> u32
     ensures { (result ≡ header_map n e x a c r w) × (result ≤ 127) }
 {
-    let f1 = flag(0 < n);
-    let f2 = flag(0 < e);
-    let f3 = flag(0 < x);
-    let f4 = flag(0 < a);
-    let f5 = flag(0 < c);
-    let f6 = flag(0 < r);
-    let f7 = flag(0 < w);
-    f1 + f2 * 2 + f3 * 4 + f4 * 8 + f5 * 16 + f6 * 32 + f7 * 64
+    u32::from(0 < n)
+        + u32::from(0 < e) * 2
+        + u32::from(0 < x) * 4
+        + u32::from(0 < a) * 8
+        + u32::from(0 < c) * 16
+        + u32::from(0 < r) * 32
+        + u32::from(0 < w) * 64
 }
 
 fn put_header(out: &mut [u8], n: u32, e: u32, x: u32, a: u32, c: u32, r: u32, w: u32) -> usize
@@ -184,17 +168,10 @@ pub fn put_tables(
 }
 
 // How many bytes the texts have together, 64 bits wide.
+#[tactic(auto, using(crate::proofs::Laws::lengths_sum))]
 pub fn text_total(texts: &[[u32; 3]]) -> usize
     requires { length texts.now < 4294967296 }
     ensures { result ≡ lengths texts.now }
 {
-    let mut total: usize = 0;
-    let mut i: usize = 0;
-    while i < texts.len() {
-        let row = texts[i];
-        let len = long(row[1]);
-        total += len;
-        i += 1;
-    }
-    total
+    texts.iter().map(|row| row[1] as usize).sum()
 }

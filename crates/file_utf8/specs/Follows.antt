@@ -1,8 +1,6 @@
 -- What is wanted of the bytes to come, and what one byte makes of it: for the contracts of inner functions.
-use Rattle.std.specs.Prelude.{◌≡◌, Bool, false, List, ◌∷◌, ℕ}
+use Rattle.std.specs.Prelude.{◌≡◌, Bool, false, List, ◌∷◌, ℕ, Option, Some, None}
 use Rattle.file_utf8.specs.declared.Wanted.{Wanted}
-use Rattle.file_utf8.specs.declared.Followed.{Followed}
-use Rattle.file_utf8.specs.declared.Followed.TheVariants.{Wants, Ill}
 use Rattle.file_utf8.specs.Bytewise.{rest}
 
 -- before a character
@@ -13,9 +11,9 @@ abbrev pub wants : Wanted → List ℕ → Bool
 wants w s = rest w.left w.low w.high s
 
 -- after b the same is tested of the bytes that come, or none pass
-abbrev pub FollowsCase : Wanted → ℕ → Followed → Type 0
-FollowsCase w b (Wants z) = (s : List ℕ) → wants w (b ∷ s) ≡ wants z s
-FollowsCase w b Ill = (s : List ℕ) → wants w (b ∷ s) ≡ false
+abbrev pub FollowsCase : Wanted → ℕ → Option Wanted → Type 0
+FollowsCase w b (Some z) = (s : List ℕ) → wants w (b ∷ s) ≡ wants z s
+FollowsCase w b None = (s : List ℕ) → wants w (b ∷ s) ≡ false
 
-pub record Follows (w : Wanted) (b : ℕ) (r : Followed) : Type 0 where
+pub record Follows (w : Wanted) (b : ℕ) (r : Option Wanted) : Type 0 where
   pub by : FollowsCase w b r

@@ -15,122 +15,93 @@ pub struct Wanted {
     pub high: u8,
 }
 
-// What is wanted after a byte.
-#[derive(Clone, Copy)]
-pub enum Followed {
-    Wants(Wanted),
-    Ill,
-}
+// Before a character, and what is wanted of any further byte of one.
+const START: Wanted = Wanted {
+    left: 0,
+    low: 128,
+    high: 191,
+};
 
 // How many bytes follow a first byte: 0 where none may.
+#[tactic(auto, unfolding(crate::specs::Bytewise::more))]
 fn more(a: u8) -> u32
     ensures { result ≡ Bytewise.more a }
 {
-    if a < 194 {
-        return 0;
+    match a {
+        194..=223 => 1,
+        224..=239 => 2,
+        240..=244 => 3,
+        _ => 0,
     }
-    if a < 224 {
-        return 1;
-    }
-    if a < 240 {
-        return 2;
-    }
-    if a < 245 {
-        return 3;
-    }
-    0
 }
 
 // The least byte that may come after a first byte: none that would make the form overlong.
+#[tactic(auto, unfolding(crate::specs::Bytewise::low))]
 fn low(a: u8) -> u8
     ensures { result ≡ Bytewise.low a }
 {
-    if a == 224 {
-        return 160;
+    match a {
+        224 => 160,
+        240 => 144,
+        _ => 128,
     }
-    if a == 240 {
-        return 144;
-    }
-    128
 }
 
 // And the greatest: none that would make a surrogate, or a number above 10FFFF.
+#[tactic(auto, unfolding(crate::specs::Bytewise::high))]
 fn high(a: u8) -> u8
     ensures { result ≡ Bytewise.high a }
 {
-    if a == 237 {
-        return 159;
+    match a {
+        237 => 159,
+        244 => 143,
+        _ => 191,
     }
-    if a == 244 {
-        return 143;
-    }
-    191
 }
 
-// A character's first byte.
-fn begin(a: u8) -> Followed
+// A character's first byte, and what is wanted after it.
+fn begin(a: u8) -> Option<Wanted>
     ensures { Follows start a result }
 {
     if a < 128 {
-        return Followed::Wants(Wanted {
-            left: 0,
-            low: 128,
-            high: 191,
-        });
+        return Some(START);
     }
     let left = more(a);
     if left == 0 {
-        return Followed::Ill;
+        return None;
     }
-    let from = low(a);
-    let to = high(a);
-    Followed::Wants(Wanted {
-        left: left,
-        low: from,
-        high: to,
+    Some(Wanted {
+        left,
+        low: low(a),
+        high: high(a),
     })
 }
 
-// The next byte.
-fn follow(w: Wanted, b: u8) -> Followed
+// What is wanted after the next byte, if it may come.
+fn follow(w: Wanted, b: u8) -> Option<Wanted>
     ensures { Follows w b result }
 {
     if w.left == 0 {
         return begin(b);
     }
-    if b < w.low {
-        return Followed::Ill;
+    if b < w.low || w.high < b {
+        return None;
     }
-    if w.high < b {
-        return Followed::Ill;
-    }
-    let left = w.left - 1;
-    Followed::Wants(Wanted {
-        left: left,
-        low: 128,
-        high: 191,
+    Some(Wanted {
+        left: w.left - 1,
+        ..START
     })
 }
 
 pub fn well_formed(text: &[u8]) -> bool
     ensures { Told (Utf8 text.now) result }
 {
-    let mut w = Wanted {
-        left: 0,
-        low: 128,
-        high: 191,
-    };
-    let mut k: usize = 0;
-    while k < text.len() {
-        match follow(w, text[k]) {
-            Followed::Ill => {
-                return false;
-            }
-            Followed::Wants(z) => {
-                w = z;
-            }
-        }
-        k += 1;
+    let mut w = START;
+    for b in text {
+        let Some(next) = follow(w, *b) else {
+            return false;
+        };
+        w = next;
     }
     w.left == 0
 }

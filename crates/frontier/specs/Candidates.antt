@@ -1,13 +1,11 @@
 -- The candidates of a frontier: in a slot's words, in the struct that presents one, and the survivors as a list.
-use Rattle.std.specs.Prelude.{◌≡◌, List, [], ◌∷◌, map, ℕ, zero, suc, ◌+◌, ◌-◌, ◌<◌, length}
+use Rattle.std.specs.Prelude.{◌≡◌, List, [], ◌∷◌, map, ℕ, zero, suc, ◌+◌, ◌-◌, ◌<◌, length, Option, Some, None}
 use Rattle.cost.specs.Cost.{Cost}
 use Rattle.cost.specs.Value.{halves, value}
 use Rattle.cost.specs.declared.ConsumerCost.{ConsumerCost}
 use Rattle.layout.specs.Frontier.{Cand, covers, present}
 use Rattle.avl.specs.Mem.{word, put, At}
 use Rattle.avl.specs.Holds.{top}
-use Rattle.avl.specs.declared.Link.{Link}
-use Rattle.avl.specs.declared.Link.TheVariants.{Nothing, Slot}
 use Rattle.avl.specs.Links.{link_of}
 use Rattle.frontier.specs.declared.ScratchCandidate.{ScratchCandidate}
 use Rattle.frontier.specs.declared.Builder.{Builder}
@@ -63,16 +61,16 @@ pub record Stands (m : List ℕ) (s : ℕ) : Type 0 where
   pub column : word m s 3 < top
 
 -- a walk along the order: from the link on stand the candidates xs
-pub record Stop (m : List ℕ) (c : Link) (x : Cand Pending) (R : ℕ → Type 0) : Type 0 where
+pub record Stop (m : List ℕ) (c : Option ℕ) (x : Cand Pending) (R : ℕ → Type 0) : Type 0 where
   pub slot : ℕ
-  pub is : c ≡ Slot slot
+  pub is : c ≡ Some slot
   pub stands : Stands m slot
   pub here : candidate_at m slot ≡ x
   pub rest : R slot
 
-abbrev pub Rest : List ℕ → Link → List (Cand Pending) → Type 0
-Rest m c [] = c ≡ Nothing
+abbrev pub Rest : List ℕ → Option ℕ → List (Cand Pending) → Type 0
+Rest m c [] = c ≡ None
 Rest m c (x ∷ xs) = Stop m c x (λ s. Rest m (link_of (next m s)) xs)
 
-pub record Going (m : List ℕ) (c : Link) (xs : List (Cand Pending)) : Type 0 where
+pub record Going (m : List ℕ) (c : Option ℕ) (xs : List (Cand Pending)) : Type 0 where
   pub rest : Rest m c xs

@@ -1,5 +1,5 @@
 -- The frontier in memory: the tree, the order of presentation of the same slots, and the slots that are free again; what the functions are asked and what they give.
-use Rattle.std.specs.Prelude.{◌≡◌, ◌≢◌, Bool, true, false, not, ◌||◌, List, [], ◌∷◌, ◌++◌, ℕ, suc, ◌+◌, ◌*◌, ◌≤◌, ◌<◌, max, length, eqb}
+use Rattle.std.specs.Prelude.{◌≡◌, ◌≢◌, Bool, true, false, not, ◌||◌, List, [], ◌∷◌, ◌++◌, ℕ, suc, ◌+◌, ◌*◌, ◌≤◌, ◌<◌, max, length, eqb, Result, Ok, Err}
 use Rattle.cost.specs.Cost.{Cost, cheap}
 use Rattle.cost.specs.Order.{Cheap}
 use Rattle.layout.specs.Frontier.{Cand, covers, any, keep, present}
@@ -12,7 +12,7 @@ use Rattle.frontier.specs.declared.Builder.{Builder}
 use Rattle.frontier.specs.declared.Effect.{Effect}
 use Rattle.frontier.specs.declared.Effect.TheVariants.{Pruned, Beside, Removing}
 use Rattle.frontier.specs.declared.Presented.{Presented}
-use Rattle.frontier.specs.declared.Presented.TheVariants.{Done, Exhausted}
+use Rattle.frontier.specs.declared.Full.{Full}
 use Rattle.frontier.specs.Candidates.{Pending, cost_at, candidate_at, survivors, pruned_by}
 use Rattle.frontier.specs.Chain.{Seg}
 
@@ -180,6 +180,6 @@ pub record Refused (m n : List ℕ) (size : ℕ) (b : Builder) (x : Cand Pending
   pub needed_is : needed ≡ length (present covers (survivors m b) x)
   pub live_is : needed ≡ length (survivors m b) + 1
 
-abbrev pub Presents : List ℕ → List ℕ → ℕ → Builder → Cand Pending → Presented → Type 0
-Presents m n size b x (Done b' pruned) = After m n size b b' x pruned
-Presents m n size b x (Exhausted needed) = Refused m n size b x needed
+abbrev pub Presents : List ℕ → List ℕ → ℕ → Builder → Cand Pending → Result Presented Full → Type 0
+Presents m n size b x (Ok d) = After m n size b d.builder x d.pruned
+Presents m n size b x (Err e) = Refused m n size b x e.needed

@@ -1,5 +1,5 @@
 -- The survivors in memory: they are the candidates of the order, a walk along the links meets them one by one, and there are no more than the size.
-use Rattle.std.specs.Prelude.{◌≡◌, refl, true, false, not, List, [], ◌∷◌, ◌++◌, map, ℕ, suc, ◌≤◌, ◌<◌, length}
+use Rattle.std.specs.Prelude.{◌≡◌, refl, true, false, not, List, [], ◌∷◌, ◌++◌, map, ℕ, suc, ◌≤◌, ◌<◌, length, Option, Some, None}
 use Rattle.std.proofs.Common.{sym, ◌∙◌, ap, subst, inl, inr, arith}
 use Rattle.layout.specs.Frontier.{Cand, covers, any, keep, present}
 use Rattle.avl.specs.Mem.{word}
@@ -7,8 +7,6 @@ use Rattle.avl.specs.Near.{entry_ord, entry_key, entry_of}
 use Rattle.avl.specs.Members.{In}
 use Rattle.avl.specs.Holds.{nil, top}
 use Rattle.avl.specs.Links.{link_of}
-use Rattle.avl.specs.declared.Link.{Link}
-use Rattle.avl.specs.declared.Link.TheVariants.{Nothing, Slot}
 use Rattle.avl.specs.LinkLaws.{link_nil, link_slot, not_nothing, slot_same}
 use Rattle.frontier.specs.declared.Builder.{Builder}
 use Rattle.frontier.specs.Candidates.{Pending, candidate_at, next, chain, survivors, Stands, Rest, Going}
@@ -51,7 +49,7 @@ rest_of m p c (x ∷ xs) q h f = record {
 }
 
 -- from the first link on stand the survivors
-pub begins : {m : List ℕ} {size : ℕ} {b : Builder} {c : Link} → Frontier m size b → c ≡ link_of b.head → Going m c (survivors m b)
+pub begins : {m : List ℕ} {size : ℕ} {b : Builder} {c : Option ℕ} → Frontier m size b → c ≡ link_of b.head → Going m c (survivors m b)
 begins {m} {size} {b} {c} p e =
     let k = p.sound.kept in
     record { rest = subst (λ z. Rest m z (survivors m b)) (sym e) (subst (λ z. Rest m (link_of b.head) z) (sym (survive k)) (rest_of m nil b.head k.order b.tail k.seg (column_low k))) }
@@ -65,7 +63,7 @@ pub record Met (m : List ℕ) (s : ℕ) (xs : List (Cand Pending)) : Type 0 wher
   pub here : candidate_at m s ≡ x
   pub going : Going m (link_of (next m s)) more
 
-pub meets : {m : List ℕ} {c : Link} {s : ℕ} {xs : List (Cand Pending)} → Going m c xs → c ≡ Slot s → Met m s xs
+pub meets : {m : List ℕ} {c : Option ℕ} {s : ℕ} {xs : List (Cand Pending)} → Going m c xs → c ≡ Some s → Met m s xs
 meets {m} {c} {s} {xs} g e = go xs g.rest
   where
     go : (xs : List (Cand Pending)) → Rest m c xs → Met m s xs
@@ -74,11 +72,11 @@ meets {m} {c} {s} {xs} g e = go xs g.rest
         let q : h.slot ≡ s = slot_same h.slot s (sym h.is ∙ e) in
         record { x = x; more = xs; is = refl; stands = subst (λ z. Stands m z) q h.stands; here = ap (λ z. candidate_at m z) (sym q) ∙ h.here; going = record { rest = subst (λ z. Rest m (link_of (next m z)) xs) q h.rest } }
 
-pub goes_on : {m : List ℕ} {s : ℕ} {xs : List (Cand Pending)} {c : Link} (q : Met m s xs) → c ≡ link_of (next m s) → Going m c q.more
+pub goes_on : {m : List ℕ} {s : ℕ} {xs : List (Cand Pending)} {c : Option ℕ} (q : Met m s xs) → c ≡ link_of (next m s) → Going m c q.more
 goes_on {m} q e = subst (λ z. Going m z q.more) (sym e) q.going
 
 -- a link that names none ends it
-pub ends : {m : List ℕ} {c : Link} {xs : List (Cand Pending)} → Going m c xs → c ≡ Nothing → xs ≡ []
+pub ends : {m : List ℕ} {c : Option ℕ} {xs : List (Cand Pending)} → Going m c xs → c ≡ None → xs ≡ []
 ends {m} {c} {xs} g e = go xs g.rest
   where
     go : (xs : List (Cand Pending)) → Rest m c xs → xs ≡ []

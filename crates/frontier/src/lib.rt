@@ -8,13 +8,13 @@ ghost use Rattle.std.specs.Prelude.{◌≡◌, ◌≢◌};
 ghost use Rattle.cost.specs.Cost.{cheap, cheaper};
 ghost use Rattle.cost.specs.Value.{value};
 ghost use Rattle.layout.specs.Frontier.{any};
-ghost use Rattle.avl.specs.Mem.{word, At};
+ghost use Rattle.avl.specs.Mem.{At};
 ghost use Rattle.avl.specs.Holds.{nil};
 ghost use Rattle.avl.specs.Links.{link_of};
 ghost use Rattle.frontier.specs.Candidates.{carried, cost_at, candidate_at, next, written_cost, written_plan, Stands};
 ghost use Rattle.frontier.specs.Kept.{Sound, Frontier, Opened, Drop, Dropped, Roomy, Taken, Filled, Admit, Admitted, prunes, none_dearer, Looked, Effects, Fresh, Sifted, Presents};
 
-pub use avl::{Link, larger};
+pub use avl::larger;
 use avl::{Way, get, store};
 use cost::ConsumerCost;
 
@@ -62,11 +62,17 @@ pub struct Builder {
     pub live: u64,
 }
 
-// What became of a presented candidate: the frontier as it is then and how many were pruned; or how many slots it would take.
+// What a presented candidate leaves: the frontier, and how many were pruned.
 #[derive(Clone, Copy)]
-pub enum Presented {
-    Done(Builder, u64),
-    Exhausted(u64),
+pub struct Presented {
+    pub builder: Builder,
+    pub pruned: u64,
+}
+
+// There is no room: how many slots it would take.
+#[derive(Clone, Copy)]
+pub struct Full {
+    pub needed: u64,
 }
 
 // An empty frontier, whatever the lent memory holds.
@@ -89,13 +95,10 @@ fn cost_of(frontier: &[u64], s: u64) -> ConsumerCost
     requires { At frontier.now s }
     ensures { value result ≡ cost_at frontier.now s }
 {
-    let overflow_high = get(frontier, s, OVERFLOW_HIGH);
-    let overflow_low = get(frontier, s, OVERFLOW_LOW);
-    let burden = get(frontier, s, BURDEN);
     ConsumerCost {
-        overflow_high,
-        overflow_low,
-        burden,
+        overflow_high: get(frontier, s, OVERFLOW_HIGH),
+        overflow_low: get(frontier, s, OVERFLOW_LOW),
+        burden: get(frontier, s, BURDEN),
     }
 }
 
@@ -108,14 +111,14 @@ fn store_cost(frontier: &mut [u64], s: u64, cost: ConsumerCost)
     store(frontier, s, BURDEN, cost.burden);
 }
 
-fn store_plan(frontier: &mut [u64], s: u64, precedence: u64, kind: u64, first: u64, second: u64)
+fn store_plan(frontier: &mut [u64], s: u64, candidate: ScratchCandidate)
     requires { At frontier.old s }
-    ensures { frontier.new ≡ written_plan frontier.old s precedence kind first second }
+    ensures { frontier.new ≡ written_plan frontier.old s candidate.precedence candidate.kind candidate.first candidate.second }
 {
-    store(frontier, s, PRECEDENCE, precedence);
-    store(frontier, s, KIND, kind);
-    store(frontier, s, FIRST, first);
-    store(frontier, s, SECOND, second);
+    store(frontier, s, PRECEDENCE, candidate.precedence);
+    store(frontier, s, KIND, candidate.kind);
+    store(frontier, s, FIRST, candidate.first);
+    store(frontier, s, SECOND, candidate.second);
 }
 
 // Makes slot s the candidate, and a tree of its own.
@@ -123,17 +126,9 @@ fn fill(frontier: &mut [u64], s: u64, candidate: ScratchCandidate)
     requires { At frontier.old s }
     ensures { Filled frontier.old frontier.new s (carried candidate) }
 {
-    let cost = candidate.cost;
-    store_cost(frontier, s, cost);
+    store_cost(frontier, s, candidate.cost);
     store(frontier, s, LAST, candidate.last as u64);
-    store_plan(
-        frontier,
-        s,
-        candidate.precedence,
-        candidate.kind,
-        candidate.first,
-        candidate.second,
-    );
+    store_plan(frontier, s, candidate);
     avl::clear(frontier, s);
 }
 
@@ -144,8 +139,7 @@ fn stays(frontier: &[u64], s: u64, cost: ConsumerCost) -> bool
     requires { At frontier.now s }
     ensures { result ≡ cheap (cost_at frontier.now s) (value cost) }
 {
-    let kept = cost_of(frontier, s);
-    kept.at_most(cost)
+    cost_of(frontier, s).at_most(cost)
 }
 
 // The candidate in slot s costs strictly less: it prunes a candidate of the cost at a higher column.
@@ -153,8 +147,7 @@ fn beats(frontier: &[u64], s: u64, cost: ConsumerCost) -> bool
     requires { At frontier.now s }
     ensures { result ≡ cheaper (cost_at frontier.now s) (value cost) }
 {
-    let kept = cost_of(frontier, s);
-    kept.less(cost)
+    cost_of(frontier, s).less(cost)
 }
 
 // ---- what a presented candidate does
@@ -165,26 +158,21 @@ fn covered(frontier: &[u64], way: Way, candidate: ScratchCandidate) -> bool
     requires { Looked frontier.now candidate.last way }
     ensures { (p : Looked frontier.now candidate.last way) → result ≡ any (prunes frontier.now (carried candidate)) p.sound.kept.order }
 {
-    let cost = candidate.cost;
     if way.same != NIL {
-        return stays(frontier, way.same, cost);
+        stays(frontier, way.same, candidate.cost)
+    } else {
+        way.before != NIL && beats(frontier, way.before, candidate.cost)
     }
-    if way.before != NIL {
-        return beats(frontier, way.before, cost);
-    }
-    false
 }
 
 // Whether there is no slot s, or its candidate costs no more. Where s has the least column from a candidate's own on, this holds of all from
 // there on: none costs more than that.
+#[tactic(auto, unfolding(crate::specs::Kept::none_dearer))]
 fn none_dearer(frontier: &[u64], s: u64, cost: ConsumerCost) -> bool
     requires { s ≢ nil → At frontier.now s }
     ensures { result ≡ none_dearer frontier.now s (value cost) }
 {
-    if s == NIL {
-        return true;
-    }
-    stays(frontier, s, cost)
+    s == NIL || stays(frontier, s, cost)
 }
 
 // One of those that are kept prunes it; it comes beside them all; or it removes some.
@@ -200,15 +188,14 @@ fn weigh(frontier: &[u64], b: Builder, candidate: ScratchCandidate) -> Effect
     requires { Sound frontier.now b }
     ensures { (p : Sound frontier.now b) → Effects frontier.now (carried candidate) p.kept.order result }
 {
-    let cost = candidate.cost;
     let way = avl::search(frontier, b.root, candidate.last as u64);
     if covered(frontier, way, candidate) {
-        return Effect::Pruned;
+        Effect::Pruned
+    } else if none_dearer(frontier, way.from, candidate.cost) {
+        Effect::Beside
+    } else {
+        Effect::Removing
     }
-    if none_dearer(frontier, way.from, cost) {
-        return Effect::Beside;
-    }
-    Effect::Removing
 }
 
 // ---- candidates out and in
@@ -219,25 +206,22 @@ fn discard(frontier: &mut [u64], b: Builder, column: u64) -> Builder
     ensures { (p : Drop frontier.old b column) → Dropped frontier.old frontier.new b result column p.kept.t p.kept.order }
 {
     let d = avl::remove(frontier, b.root, column);
-    let root = d.root;
-    let s = d.slot;
     let ends = order::unlink_precedence(
         frontier,
-        s,
+        d.slot,
         order::Ends {
             head: b.head,
             tail: b.tail,
         },
     );
-    store(frontier, s, FREE_NEXT, b.free);
-    let live = b.live - 1;
+    store(frontier, d.slot, FREE_NEXT, b.free);
     Builder {
-        root,
+        root: d.root,
         head: ends.head,
         tail: ends.tail,
-        free: s,
+        free: d.slot,
         used: b.used,
-        live,
+        live: b.live - 1,
     }
 }
 
@@ -249,13 +233,13 @@ fn prune(frontier: &mut [u64], builder: Builder, candidate: ScratchCandidate) ->
     let cost = candidate.cost;
     let last = candidate.last as u64;
     let mut b = builder;
+    // No range to go over: each round takes a candidate out of the tree that the next one searches.
     loop {
         let way = avl::search(frontier, b.root, last);
-        let s = way.from;
-        if none_dearer(frontier, s, cost) {
+        if none_dearer(frontier, way.from, cost) {
             return b;
         }
-        let column = get(frontier, s, LAST);
+        let column = get(frontier, way.from, LAST);
         b = discard(frontier, b, column);
     }
 }
@@ -274,18 +258,17 @@ fn take(frontier: &[u64], b: Builder) -> Slot
     ensures { (p : Roomy frontier.now b) → Taken frontier.now p.size p.kept.order result.slot result.free result.used b.used }
 {
     if b.free == NIL {
-        let used = b.used + 1;
-        return Slot {
+        Slot {
             slot: b.used,
             free: NIL,
-            used,
-        };
-    }
-    let free = get(frontier, b.free, FREE_NEXT);
-    Slot {
-        slot: b.free,
-        free,
-        used: b.used,
+            used: b.used + 1,
+        }
+    } else {
+        Slot {
+            slot: b.free,
+            free: get(frontier, b.free, FREE_NEXT),
+            used: b.used,
+        }
     }
 }
 
@@ -295,25 +278,22 @@ fn admit(frontier: &mut [u64], b: Builder, candidate: ScratchCandidate) -> Build
     ensures { (p : Admit frontier.old b candidate.last) → Admitted frontier.old frontier.new p.roomy.size b result (carried candidate) p.roomy.kept.order }
 {
     let place = take(frontier, b);
-    let s = place.slot;
-    fill(frontier, s, candidate);
+    fill(frontier, place.slot, candidate);
     let ends = order::append_precedence(
         frontier,
-        s,
+        place.slot,
         order::Ends {
             head: b.head,
             tail: b.tail,
         },
     );
-    let root = avl::insert(frontier, b.root, s);
-    let live = b.live + 1;
     Builder {
-        root,
+        root: avl::insert(frontier, b.root, place.slot),
         head: ends.head,
         tail: ends.tail,
         free: place.free,
         used: place.used,
-        live,
+        live: b.live + 1,
     }
 }
 
@@ -323,25 +303,30 @@ pub fn present(
     size: u64,
     b: Builder,
     candidate: ScratchCandidate,
-) -> Presented
+) -> Result<Presented, Full>
     requires { Frontier frontier.old size b }
     ensures { Presents frontier.old frontier.new size b (carried candidate) result }
 {
     match weigh(frontier, b, candidate) {
-        Effect::Pruned => Presented::Done(b, 1),
+        Effect::Pruned => Ok(Presented {
+            builder: b,
+            pruned: 1,
+        }),
         Effect::Beside => {
             if size <= b.live {
-                let needed = b.live + 1;
-                return Presented::Exhausted(needed);
+                return Err(Full { needed: b.live + 1 });
             }
-            let after = admit(frontier, b, candidate);
-            Presented::Done(after, 0)
+            Ok(Presented {
+                builder: admit(frontier, b, candidate),
+                pruned: 0,
+            })
         }
         Effect::Removing => {
             let left = prune(frontier, b, candidate);
-            let removed = b.live - left.live;
-            let after = admit(frontier, left, candidate);
-            Presented::Done(after, removed)
+            Ok(Presented {
+                builder: admit(frontier, left, candidate),
+                pruned: b.live - left.live,
+            })
         }
     }
 }
@@ -349,41 +334,18 @@ pub fn present(
 // ---- the survivors, in order of presentation (finish_builder walks them)
 
 // The first survivor's slot.
-pub fn first(b: Builder) -> Link
+pub fn first(b: Builder) -> Option<u64>
     ensures { result ≡ link_of b.head }
 {
     avl::linked(b.head)
 }
 
 // The slot of the survivor that was presented next after the one in slot s.
-pub fn following(frontier: &[u64], s: u64) -> Link
+pub fn following(frontier: &[u64], s: u64) -> Option<u64>
     requires { Stands frontier.now s }
     ensures { result ≡ link_of (next frontier.now s) }
 {
-    let n = get(frontier, s, NEXT);
-    avl::linked(n)
-}
-
-// The words of a pending plan.
-#[derive(Clone, Copy)]
-struct Words {
-    kind: u64,
-    first: u64,
-    second: u64,
-}
-
-fn plan_of(frontier: &[u64], s: u64) -> Words
-    requires { Stands frontier.now s }
-    ensures { (result.kind ≡ word frontier.now s 5) × ((result.first ≡ word frontier.now s 6) × (result.second ≡ word frontier.now s 7)) }
-{
-    let kind = get(frontier, s, KIND);
-    let first = get(frontier, s, FIRST);
-    let second = get(frontier, s, SECOND);
-    Words {
-        kind,
-        first,
-        second,
-    }
+    avl::linked(get(frontier, s, NEXT))
 }
 
 // The candidate in slot s.
@@ -391,17 +353,12 @@ pub fn candidate(frontier: &[u64], s: u64) -> ScratchCandidate
     requires { Stands frontier.now s }
     ensures { carried result ≡ candidate_at frontier.now s }
 {
-    let cost = cost_of(frontier, s);
-    let column = get(frontier, s, LAST);
-    let last = column as u32;
-    let precedence = get(frontier, s, PRECEDENCE);
-    let words = plan_of(frontier, s);
     ScratchCandidate {
-        cost,
-        last,
-        precedence,
-        kind: words.kind,
-        first: words.first,
-        second: words.second,
+        cost: cost_of(frontier, s),
+        last: get(frontier, s, LAST) as u32,
+        precedence: get(frontier, s, PRECEDENCE),
+        kind: get(frontier, s, KIND),
+        first: get(frontier, s, FIRST),
+        second: get(frontier, s, SECOND),
     }
 }

@@ -25,10 +25,11 @@ fn set_next(frontier: &mut [u64], p: u64, n: u64, head: u64) -> u64
     ensures { Forward frontier.old frontier.new p n head result }
 {
     if p == NIL {
-        return n;
+        n
+    } else {
+        store(frontier, p, NEXT, n);
+        head
     }
-    store(frontier, p, NEXT, n);
-    head
 }
 
 // Makes p the slot before n, or the tail. Returns the tail.
@@ -37,10 +38,11 @@ fn set_previous(frontier: &mut [u64], n: u64, p: u64, tail: u64) -> u64
     ensures { Back frontier.old frontier.new n p tail result }
 {
     if n == NIL {
-        return p;
+        p
+    } else {
+        store(frontier, n, PREVIOUS, p);
+        tail
     }
-    store(frontier, n, PREVIOUS, p);
-    tail
 }
 
 // Takes slot s out of the order.
@@ -50,9 +52,10 @@ pub fn unlink_precedence(frontier: &mut [u64], s: u64, ends: Ends) -> Ends
 {
     let p = get(frontier, s, PREVIOUS);
     let n = get(frontier, s, NEXT);
-    let head = set_next(frontier, p, n, ends.head);
-    let tail = set_previous(frontier, n, p, ends.tail);
-    Ends { head, tail }
+    Ends {
+        head: set_next(frontier, p, n, ends.head),
+        tail: set_previous(frontier, n, p, ends.tail),
+    }
 }
 
 // Puts slot s at the end of the order.
@@ -60,9 +63,10 @@ pub fn append_precedence(frontier: &mut [u64], s: u64, ends: Ends) -> Ends
     requires { Without frontier.old s ends.head ends.tail }
     ensures { (p : Without frontier.old s ends.head ends.tail) → Chained frontier.old frontier.new result.head result.tail (p.xs ++ s ∷ []) }
 {
-    let p = ends.tail;
-    store(frontier, s, PREVIOUS, p);
+    store(frontier, s, PREVIOUS, ends.tail);
     store(frontier, s, NEXT, NIL);
-    let head = set_next(frontier, p, s, ends.head);
-    Ends { head, tail: s }
+    Ends {
+        head: set_next(frontier, ends.tail, s, ends.head),
+        tail: s,
+    }
 }

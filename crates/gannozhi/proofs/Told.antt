@@ -7,7 +7,8 @@ use Rattle.solve_workspace.specs.declared.Bounds.{Bounds}
 use Rattle.solve_workspace.specs.declared.RenderOptions.{RenderOptions}
 use Rattle.materialize.specs.Rows.{Row}
 use Rattle.prepare.specs.declared.write.FileCounts.{FileCounts}
-use Rattle.prepare.specs.declared.write.Outcome.{Outcome}
+use Rattle.std.specs.Prelude.{Result}
+use Rattle.prepare.specs.declared.write.Unwritten.{Unwritten}
 use Rattle.prepare.specs.Writing.{Writes, lent_tables, LentAt}
 use Rattle.render.specs.declared.order.Lengths.{Lengths}
 use Rattle.desks.specs.declared.Desks.{Desks}
@@ -32,7 +33,7 @@ answered d was file {o} {o'} {b} {D = D} l output₀ output rows₀ rows r h e f
   number_is = n;
 }
 
-pub wrote : {n n' : FileCounts} (nodes : List (List ℕ)) (edges choices : List ℕ) (texts : List (List ℕ)) (bytes out₀ out : List ℕ) (r : Outcome) {size number : ℕ} → n ≡ n'
+pub wrote : {n n' : FileCounts} (nodes : List (List ℕ)) (edges choices : List ℕ) (texts : List (List ℕ)) (bytes out₀ out : List ℕ) (r : Result ℕ Unwritten) {size number : ℕ} → n ≡ n'
     → Writes (lent_tables n nodes edges choices texts bytes) (LentAt n nodes edges choices texts bytes) out₀ out r → size ≡ write_size r → number ≡ write_number r
     → Wrote (lent_tables n' nodes edges choices texts bytes) (LentAt n' nodes edges choices texts bytes) out₀ out size number
 wrote nodes edges choices texts bytes out₀ out r e w s m =

@@ -1,9 +1,9 @@
 -- A live report as it is handed to another language.
-use Rattle.std.specs.Prelude.{◌≡◌, List, ℕ, get_or}
+use Rattle.std.specs.Prelude.{◌≡◌, Result, List, ℕ, get_or}
 use Rattle.solve_workspace.specs.declared.Bounds.{Bounds}
 use Rattle.report.specs.Report.{Step as Asked}
 use Rattle.report.specs.Memory.{Words}
-use Rattle.report_gate.specs.declared.Opened.{Opened}
+use Rattle.report_gate.specs.declared.Head.{Head}
 use Rattle.report_gate.specs.Heads.{Opening}
 use Rattle.report_step.specs.declared.DeskStep.{DeskStep}
 use Rattle.report_step.specs.Stepping.{Stepping}
@@ -13,7 +13,7 @@ use Rattle.call_words.specs.Heads.{head_at, head_words, opened_number, opened_wo
 
 -- 0 and the words of an empty report's head; or 1, and the words are left as they were
 pub record OpenedReport (width newline_cost policy rule : ℕ) (was is : List ℕ) (number : ℕ) : Type 0 where
-  pub told : Opened
+  pub told : Result Head ℕ
   pub opening : Opening width newline_cost policy rule told
   pub head_is : is ≡ opened_words told was
   pub number_is : number ≡ opened_number told

@@ -1,27 +1,22 @@
 -- Which word is what where an answer is handed to another language.
-use Rattle.std.specs.Prelude.{◌≡◌, refl, List, [], ◌∷◌, ℕ, get_or}
+use Rattle.std.specs.Prelude.{◌≡◌, Result, Ok, Err, refl, List, [], ◌∷◌, ℕ, get_or}
 use Rattle.std.proofs.Common.{sym, ap, ◌∙◌, subst, arith}
 use Rattle.stats.specs.declared.SolveStats.{SolveStats}
 use Rattle.solve_workspace.specs.declared.Bounds.{Bounds}
 use Rattle.solve_workspace.specs.declared.RenderOptions.{RenderOptions}
 use Rattle.file_form.specs.declared.fill.Counts.{Counts}
-use Rattle.prepare.specs.declared.read.Answer.{Answer as FileAnswer}
-use Rattle.prepare.specs.declared.read.Answer.TheVariants.{Accepted, Refused as Ill}
 use Rattle.prepare.specs.declared.write.FileCounts.{FileCounts}
-use Rattle.prepare.specs.declared.write.Outcome.{Outcome}
-use Rattle.prepare.specs.declared.write.Outcome.TheVariants.{Written, Refused as Unwritten}
+use Rattle.prepare.specs.declared.write.Unwritten.{Unwritten}
 use Rattle.prepare.specs.File.{Reads}
 use Rattle.prepare.specs.Writing.{Writes}
 use Rattle.file_tables.specs.Tables.{Tables}
 use Rattle.materialize.specs.Rows.{Row}
-use Rattle.render.specs.declared.page.Rendered.{Rendered}
-use Rattle.render.specs.declared.page.Rendered.TheVariants.{Refused}
 use Rattle.render.specs.declared.order.Lengths.{Lengths}
 use Rattle.machine.specs.Numbers.{Numbered, not_0}
 use Rattle.machine.specs.Answer.{Answer, refused}
 use Rattle.answer.specs.Page.{Promised, right_refusal}
 use Rattle.solve_workspace.specs.Meets.{tally}
-use Rattle.render.specs.Rendered.{meant}
+use Rattle.render.specs.Rendered.{Rendered, refusal_with, meant}
 use Rattle.render.specs.Call.{settings}
 use Rattle.desks.specs.Desks.{charged}
 use Rattle.desks.specs.Lent.{work_in}
@@ -43,7 +38,7 @@ pub record Answered (d : ℕ) (was is : List ℕ) (file : List ℕ) (o : RenderO
 -- a refusal's number is one of those of documents 01 and 02
 pub refusals :
     {d : ℕ} {was is file : List ℕ} {o : RenderOptions} {b : Bounds} {l : Lengths} {output₀ output : List ℕ} {rows₀ rows : List Row} {answer : List ℕ} {number : ℕ}
-    → (a : Answered d was is file o b l output₀ output rows₀ rows answer number) (n needed : ℕ) (k : SolveStats) → a.told ≡ Refused n needed k → ServedNumbered Numbered n
+    → (a : Answered d was is file o b l output₀ output rows₀ rows answer number) (n needed : ℕ) (k : SolveStats) → a.told ≡ Err (refusal_with n needed k) → ServedNumbered Numbered n
 refusals {file = file} {o = o} {output = output} {rows = rows} a n needed k e = one_of refl (subst (λ (r : Rendered). Kept (Promised file (settings o)) (meant r output rows)) e a.rendering.right.promised)
   where
     of_call : Promised file (settings o) (refused n needed (tally k)) → Numbered n
@@ -56,7 +51,7 @@ refusals {file = file} {o = o} {output = output} {rows = rows} a n needed k e = 
 -- none of them is 0: the number is 0 just where there is a page
 pub never_0 :
     {d : ℕ} {was is file : List ℕ} {o : RenderOptions} {b : Bounds} {l : Lengths} {output₀ output : List ℕ} {rows₀ rows : List Row} {answer : List ℕ} {number : ℕ}
-    → (a : Answered d was is file o b l output₀ output rows₀ rows answer number) (n needed : ℕ) (k : SolveStats) → a.told ≡ Refused n needed k → number ≡ 0 → ⊥
+    → (a : Answered d was is file o b l output₀ output rows₀ rows answer number) (n needed : ℕ) (k : SolveStats) → a.told ≡ Err (refusal_with n needed k) → number ≡ 0 → ⊥
 never_0 {number = number} a n needed k e z =
     let same : number ≡ n = a.number_is ∙ ap (λ (r : Rendered). get_or (words r) 0 0) e in
     go (refusals a n needed k e) (omega (arith, same, z))
@@ -72,25 +67,25 @@ abbrev pub table_words : Counts → List ℕ
 table_words n = n.nodes ∷ n.edges ∷ n.choices ∷ n.texts ∷ n.annotations ∷ n.root.0 ∷ n.space.0 ∷ n.bytes ∷ []
 
 -- the refusal's number, or 0 for an accepted file, whose counts are put; a refusal leaves the lent words as they were
-abbrev pub read_number : FileAnswer → ℕ
-read_number (Accepted n) = 0
-read_number (Ill k) = k
+abbrev pub read_number : Result Counts ℕ → ℕ
+read_number (Ok n) = 0
+read_number (Err k) = k
 
-abbrev pub read_words : FileAnswer → List ℕ → List ℕ
-read_words (Accepted n) was = table_words n
-read_words (Ill k) was = was
+abbrev pub read_words : Result Counts ℕ → List ℕ → List ℕ
+read_words (Ok n) was = table_words n
+read_words (Err k) was = was
 
 -- the refusal's number, or 0 for a written file; how many bytes were written, or are needed (0 where no size is too small)
-abbrev pub write_number : Outcome → ℕ
-write_number (Written k) = 0
-write_number (Unwritten n needed) = n
+abbrev pub write_number : Result ℕ Unwritten → ℕ
+write_number (Ok k) = 0
+write_number (Err e) = e.number
 
-abbrev pub write_size : Outcome → ℕ
-write_size (Written k) = k
-write_size (Unwritten n needed) = needed
+abbrev pub write_size : Result ℕ Unwritten → ℕ
+write_size (Ok k) = k
+write_size (Err e) = e.needed
 
 pub record Read (s : List ℕ) (lent : Type 0) (nodes : List (List ℕ)) (edges choices : List ℕ) (texts : List (List ℕ)) (bytes was counts : List ℕ) (number : ℕ) : Type 0 where
-  pub told : FileAnswer
+  pub told : Result Counts ℕ
   pub reads : Reads s lent nodes edges choices texts bytes told
   pub counts_are : counts ≡ read_words told was
   pub number_is : number ≡ read_number told
@@ -108,7 +103,7 @@ counts w = record {
 }
 
 pub record Wrote (t : Tables) (lent : Type 0) (out₀ out : List ℕ) (size number : ℕ) : Type 0 where
-  pub told : Outcome
+  pub told : Result ℕ Unwritten
   pub writes : Writes t lent out₀ out told
   pub size_is : size ≡ write_size told
   pub number_is : number ≡ write_number told

@@ -14,9 +14,10 @@ pub mod shift;
 use call_words::accounts::{desk_words, desks_of};
 use call_words::{answer_number, answer_words, bounds_of, options_of};
 use desk_call::render_for;
+use file_form::fill::Counts;
 use file_tables::{NodeId, TextId};
-use prepare::read::{Answer, read};
-use prepare::write::{FileCounts, Outcome, write};
+use prepare::read::read;
+use prepare::write::{FileCounts, Unwritten, write};
 
 // A file's page for a desk, or why there is none. The words of the desks are eight allowances, then eight spent counts, kept between calls.
 #[unsafe(no_mangle)]
@@ -59,29 +60,27 @@ pub extern "C" fn gannozhi_render(
         desk, d, file, o, b, nodes, edges, choices, texts, bytes, tasks, results, pending, index,
         entries, kept, frontier, plans, visit, depth, output, spans,
     );
-    let a = r.answer;
-    let e = r.desks;
-    *desks = desk_words(e);
-    *answer = answer_words(a);
-    answer_number(a)
+    *desks = desk_words(r.desks);
+    *answer = answer_words(r.answer);
+    answer_number(r.answer)
 }
 
 // ---- reader and writer
 
-fn read_number(a: Answer) -> u32
+fn read_number(a: Result<Counts, u32>) -> u32
     ensures { result ≡ read_number a }
 {
     match a {
-        Answer::Accepted(_) => 0,
-        Answer::Refused(number) => number,
+        Ok(_) => 0,
+        Err(number) => number,
     }
 }
 
-fn read_words(a: Answer, was: [u32; 8]) -> [u32; 8]
+fn read_words(a: Result<Counts, u32>, was: [u32; 8]) -> [u32; 8]
     ensures { result ≡ read_words a was }
 {
     match a {
-        Answer::Accepted(n) => [
+        Ok(n) => [
             n.nodes,
             n.edges,
             n.choices,
@@ -91,7 +90,7 @@ fn read_words(a: Answer, was: [u32; 8]) -> [u32; 8]
             n.space.0,
             n.bytes,
         ],
-        Answer::Refused(_) => was,
+        Err(_) => was,
     }
 }
 
@@ -127,21 +126,21 @@ fn counts_of(w: [u32; 7]) -> FileCounts
     }
 }
 
-fn write_number(o: Outcome) -> u32
+fn write_number(o: Result<usize, Unwritten>) -> u32
     ensures { result ≡ write_number o }
 {
     match o {
-        Outcome::Written(_) => 0,
-        Outcome::Refused(number, _) => number,
+        Ok(_) => 0,
+        Err(e) => e.number,
     }
 }
 
-fn write_size(o: Outcome) -> usize
+fn write_size(o: Result<usize, Unwritten>) -> usize
     ensures { result ≡ write_size o }
 {
     match o {
-        Outcome::Written(k) => k,
-        Outcome::Refused(_, needed) => needed,
+        Ok(k) => k,
+        Err(e) => e.needed,
     }
 }
 

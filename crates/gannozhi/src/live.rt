@@ -76,13 +76,10 @@ pub extern "C" fn gannozhi_report_insert(
         choices, texts, bytes, tasks, results, pending, index, entries, kept, frontier, plans,
         visit, depth, row_output, row_spans,
     );
-    let a = r.answer;
-    let g = r.head;
-    let e = r.desks;
-    *head = head_words(g);
-    *desks = desk_words(e);
-    *answer = answer_words(a);
-    answer_number(a)
+    *head = head_words(r.head);
+    *desks = desk_words(r.desks);
+    *answer = answer_words(r.answer);
+    answer_number(r.answer)
 }
 
 // The row at a place goes from a report, for a desk. Of the sizes those of output and spans are read.
@@ -109,11 +106,8 @@ pub extern "C" fn gannozhi_report_remove(
     let r = remove(
         desk, d, place, b, h, table, files, pages, marks, output, spans,
     );
-    let a = r.answer;
-    let g = r.head;
-    let e = r.desks;
-    *head = head_words(g);
-    *desks = desk_words(e);
-    *answer = answer_words(a);
-    answer_number(a)
+    *head = head_words(r.head);
+    *desks = desk_words(r.desks);
+    *answer = answer_words(r.answer);
+    answer_number(r.answer)
 }

@@ -53,10 +53,7 @@ pub extern "C" fn gannozhi_file_all(
         desk, s, files, lengths, o, b, nodes, edges, choices, texts, bytes, tasks, results,
         pending, index, entries, kept, frontier, plans, visit, depth, output, spans, answers,
     );
-    let t = r.shared;
-    let e = t.desks;
-    let m = t.stats;
-    *desks = desk_words(e);
-    *counts = counts_words(m);
+    *desks = desk_words(r.shared.desks);
+    *counts = counts_words(r.shared.stats);
     r.number
 }

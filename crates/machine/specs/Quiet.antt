@@ -8,9 +8,8 @@ use Prim.Native.Nat.{ℕ, zero, suc, ◌+◌, ◌-◌, ◌≤◌, ◌<◌}
 use Rattle.cost.specs.Cost.{Cost}
 use Rattle.memo.specs.declared.MemoKey.{MemoKey}
 use Rattle.memo.specs.declared.CandidateRange.{CandidateRange}
-use Rattle.memo.specs.declared.MemoLookup.{MemoLookup}
-use Rattle.memo.specs.declared.MemoLookup.TheVariants.{Found, Nothing}
-use Rattle.memo.specs.Entries.{lookup}
+use Rattle.std.specs.Prelude.{Some as Found, None as Nothing}
+use Rattle.memo.specs.Entries.{MemoLookup, lookup}
 use Rattle.layout.specs.Rules.{Rules}
 use Rattle.layout.specs.Table.{Node, Empty, Break, HardLine, Text, Seq, Fill, Group, Align, Nest, Choice, Annotate, Penalty}
 use Rattle.machine.specs.Events.{Kind, stack, memo, kept, frontier, plans, visit, depth, output, spans, Bounds, Counts, Prog, ret, emit, ◌>>=◌, Out, done, stop, run, counted}

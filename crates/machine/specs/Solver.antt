@@ -6,9 +6,8 @@ use Rattle.cost.specs.Charge.{text_cost, newline_cost, penalty_cost}
 use Rattle.cost.specs.declared.Reason.TheVariants.{Column, Indent, Overflow, Burden}
 use Rattle.memo.specs.declared.MemoKey.{MemoKey}
 use Rattle.memo.specs.declared.CandidateRange.{CandidateRange}
-use Rattle.memo.specs.declared.MemoLookup.{MemoLookup}
-use Rattle.memo.specs.declared.MemoLookup.TheVariants.{Found, Nothing}
-use Rattle.memo.specs.Entries.{lookup, stored}
+use Rattle.std.specs.Prelude.{Some as Found, None as Nothing}
+use Rattle.memo.specs.Entries.{MemoLookup, lookup, stored}
 use Rattle.layout.specs.Rules.{Rules}
 use Rattle.layout.specs.Table.{Node, Empty, Break, HardLine, Text, Seq, Fill, Group, Align, Nest, Choice, Annotate, Penalty}
 use Rattle.layout.specs.Frontier.{covers}

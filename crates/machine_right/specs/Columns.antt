@@ -11,17 +11,16 @@ use borrow.Author.Tests.{ltb-true, ltb-false}
 use Rattle.std.proofs.Math.ListN.{length, length-append}
 use Rattle.std.proofs.Math.Seq.{take-append_seam, drop-append_seam}
 use Rattle.cost.specs.Cost.{Cost, zero_cost, add}
-use Rattle.cost.specs.Charge.{text_cost, newline_cost, penalty_cost}
+use Rattle.cost.specs.Charge.{text_cost, penalty_cost}
 use Rattle.memo.specs.declared.MemoKey.{MemoKey}
 use Rattle.memo.specs.declared.CandidateRange.{CandidateRange}
-use Rattle.memo.specs.declared.MemoLookup.{MemoLookup}
-use Rattle.memo.specs.declared.MemoLookup.TheVariants.{Found, Nothing}
-use Rattle.memo.specs.Entries.{Entry, lookup, stored}
+use Rattle.std.specs.Prelude.{Some as Found, None as Nothing}
+use Rattle.memo.specs.Entries.{MemoLookup, Entry, lookup, stored}
 use Rattle.layout.specs.Document.{Word, Doc, empty}
 use Rattle.layout.specs.Rules.{Rules}
 use Rattle.layout.specs.Layout.{Plan, blank, put, line}
 use Rattle.layout.specs.Table.{Node, Table, Empty, Break, HardLine, Text, Seq, Fill, Group, Align, Nest, Choice, Annotate, Penalty}
-use Rattle.layout.specs.Frontier.{Cand, cand, after, marked, charged, front}
+use Rattle.layout.specs.Frontier.{Cand, cand, after, marked, charged}
 use Rattle.machine.specs.Events.{◌>>=◌}
 use Rattle.machine.specs.Model.{Prepared, ExactChoice, PlanNode, PlanText, PlanConcat, PlanAnnotate, PlanPenalty, Made, Candidate, Scratch, scratch, no_candidate, part, range, within_range, memo_key}
 use Rattle.machine.specs.Model.{Task, Eval, CompleteAlias, CompleteUnion, CompleteChoiceSet, CompleteAnnotate, CompletePenalty, ContinueSequence, CompleteSequenceRight, State, with_tasks, with_results, with_pending, with_stores, with_builder, Got, got}

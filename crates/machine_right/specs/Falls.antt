@@ -9,9 +9,8 @@ use Rattle.cost.specs.Cost.{Cost, zero_cost}
 use Rattle.cost.specs.Charge.{penalty_cost}
 use Rattle.memo.specs.declared.MemoKey.{MemoKey}
 use Rattle.memo.specs.declared.CandidateRange.{CandidateRange}
-use Rattle.memo.specs.declared.MemoLookup.{MemoLookup}
-use Rattle.memo.specs.declared.MemoLookup.TheVariants.{Found, Nothing}
-use Rattle.memo.specs.Entries.{lookup}
+use Rattle.std.specs.Prelude.{Some as Found, None as Nothing}
+use Rattle.memo.specs.Entries.{MemoLookup, lookup}
 use Rattle.layout.specs.Document.{Doc}
 use Rattle.layout.specs.Rules.{Rules}
 use Rattle.layout.specs.Table.{Reads as ReadsAs}

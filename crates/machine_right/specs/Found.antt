@@ -13,7 +13,7 @@ use Rattle.layout.specs.Table.{Table}
 use Rattle.layout.specs.Table.{Reads as ReadsAs}
 use Rattle.layout.specs.Frontier.{Cand, least_from, least}
 use Rattle.machine.specs.Model.{Prepared, Candidate, Scratch, plan_at, Task, Eval, memo_key, State, blank_state}
-use Rattle.machine.specs.Solve.{rest, Solved, before, least_key, best_of, solve_tasks, take_best, solve}
+use Rattle.machine.specs.Solve.{Solved, before, least_key, best_of, solve_tasks, take_best, solve}
 use Rattle.machine_right.specs.Relations.{All2, nil, cons, Some, Like, Holds, Rising, rising_lower, laid, plan_at_is}
 use Rattle.machine_right.specs.Post.{Post, holds_of, says, post_bind, post_imp}
 use Rattle.machine_right.specs.Rules.{task_post, pop_post}

@@ -9,7 +9,6 @@ use Rattle.layout.specs.Layout.{Plan, blank, put, line}
 use Rattle.layout.specs.Choice.{each}
 use Rattle.layout.specs.Table.{Node, Table, Empty, Break, HardLine, Text, Seq, Fill, Group, Align, Nest, Choice, Annotate, Penalty, seq_doc, fill_doc, shape}
 use Rattle.layout.specs.Frontier.{Cand, cand, after, covers, build, front}
-use Rattle.machine.specs.Model.{children}
 
 abbrev pub Front : Type 0
 Front = List (Cand Plan)

@@ -6,7 +6,7 @@ use Rattle.std.proofs.Math.Path.{refl, ap}
 use Rattle.std.proofs.Common.{ap₂, ◌∙◌, length-append}
 use Rattle.std.proofs.Math.Option.{Option, some}
 use Rattle.cost.specs.Cost.{Cost, zero_cost, add}
-use Rattle.cost.specs.Charge.{text_cost, newline_cost, penalty_cost}
+use Rattle.cost.specs.Charge.{text_cost, penalty_cost}
 use Rattle.cost.specs.Rising.{at_zero}
 use Rattle.layout.specs.Rules.{Rules}
 use Rattle.layout.specs.Lawful.{Lawful}

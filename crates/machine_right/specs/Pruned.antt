@@ -10,9 +10,8 @@ use Rattle.cost.specs.Cost.{Cost, zero_cost}
 use Rattle.cost.specs.Charge.{penalty_cost}
 use Rattle.memo.specs.declared.MemoKey.{MemoKey}
 use Rattle.memo.specs.declared.CandidateRange.{CandidateRange}
-use Rattle.memo.specs.declared.MemoLookup.{MemoLookup}
-use Rattle.memo.specs.declared.MemoLookup.TheVariants.{Found, Nothing}
-use Rattle.memo.specs.Entries.{lookup}
+use Rattle.std.specs.Prelude.{Some as Found, None as Nothing}
+use Rattle.memo.specs.Entries.{MemoLookup, lookup}
 use Rattle.layout.specs.Rules.{Rules}
 use Rattle.layout.specs.Layout.{Plan, blank, put, line, join, mark, fee, page}
 use Rattle.layout.specs.Table.{Node, Empty, Break, HardLine, Text, Seq, Fill, Group, Align, Nest, Choice, Annotate, Penalty}

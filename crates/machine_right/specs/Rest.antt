@@ -12,11 +12,11 @@ use Rattle.layout.specs.Document.{Doc}
 use Rattle.layout.specs.Rules.{Rules}
 use Rattle.layout.specs.Table.{Reads as ReadsAs}
 use Rattle.machine.specs.Events.{Prog, ret, ◌>>=◌}
-use Rattle.machine.specs.Programs.{value, events, bind_at, bind_assoc}
+use Rattle.machine.specs.Programs.{value, bind_at, bind_assoc}
 use Rattle.machine.specs.Model.{Prepared, Task, Eval, CompleteAlias, CompleteUnion, CompleteChoiceSet, CompleteAnnotate, CompletePenalty, ContinueSequence, CompleteSequenceRight, State}
 use Rattle.machine.specs.Solver.{step}
 use Rattle.machine.specs.Solve.{lefts_of, child_count, rights, continued, work_off, work_off_all, evaluated, rest}
-use Rattle.machine_right.specs.Post.{Post, holds_of, says, post_bind, post_value, post_imp}
+use Rattle.machine_right.specs.Post.{Post, holds_of, post_bind, post_value, post_imp}
 use Rattle.machine_right.specs.Fronts.{Front}
 use Rattle.machine_right.specs.Ready.{Ready}
 use Rattle.machine_right.specs.Sound.{Each, Inv, Leaves, Low, Pushed}

@@ -20,7 +20,6 @@ use Rattle.memo.specs.declared.CandidateRange.{CandidateRange}
 use Rattle.layout.specs.Document.{Word, Doc}
 use Rattle.layout.specs.Rules.{Rules}
 use Rattle.layout.specs.Layout.{Plan, put}
-use Rattle.layout.specs.Choice.{each}
 use Rattle.layout.specs.Table.{Node, Table, Empty, Break, HardLine, Text, Seq, Fill, Group, Align, Nest, Choice, Annotate, Penalty}
 use Rattle.layout.specs.References.{refers}
 use Rattle.layout.specs.Frontier.{Cand, cand, after, covers, load, build, front}
@@ -36,7 +35,7 @@ use Rattle.machine_right.specs.Rules.{task_post, result_post, pop_post, present_
 use Rattle.machine_right.specs.Fronts.{Front, is_fill, joins, gap, spacing, seqs, means}
 use Rattle.machine_right.specs.Typed.{Pile, pile_grow, kids, Cont, c_continue, c_right, cont_grow, RangeDen, memo_grow}
 use Rattle.machine_right.specs.Ready.{Ready}
-use Rattle.machine_right.specs.Sound.{ContAt, ResAt, MemoAt, Leaves, Goes, res_grow, complete_good, child_good, lower}
+use Rattle.machine_right.specs.Sound.{ContAt, ResAt, MemoAt, Leaves, Goes, res_grow, complete_good, child_good}
 use Rattle.machine_right.specs.Relations.{Slice, slice_grow, Headed, headed}
 use Rattle.machine_right.specs.Tasks.{joined_post}
 

@@ -10,9 +10,8 @@ use Rattle.std.specs.Prelude.{◌≡◌, length, drop}
 use Rattle.std.proofs.Math.Path.{refl, sym, ap, ap₂}
 use Rattle.memo.specs.declared.MemoKey.{MemoKey}
 use Rattle.memo.specs.declared.CandidateRange.{CandidateRange}
-use Rattle.memo.specs.declared.MemoLookup.{MemoLookup}
-use Rattle.memo.specs.declared.MemoLookup.TheVariants.{Found, Nothing}
-use Rattle.memo.specs.Entries.{lookup}
+use Rattle.std.specs.Prelude.{Some as Found, None as Nothing}
+use Rattle.memo.specs.Entries.{MemoLookup, lookup}
 use Rattle.layout.specs.Document.{Doc}
 use Rattle.layout.specs.Rules.{Rules}
 use Rattle.layout.specs.Layout.{Plan}
@@ -24,7 +23,7 @@ use Rattle.layout.specs.Frontier.{Cand, covers, build, front}
 use Rattle.layout.specs.Frontier.{present as presented}
 use Rattle.layout.proofs.ChoiceLists.{list_front}
 use Rattle.machine.specs.Events.{Prog}
-use Rattle.machine.specs.Model.{Prepared, ExactChoice, children, Candidate, Scratch, range, memo_key}
+use Rattle.machine.specs.Model.{Prepared, ExactChoice, children, Candidate, Scratch, memo_key}
 use Rattle.machine.specs.Model.{Task, Eval, CompleteAlias, CompleteUnion, CompleteChoiceSet, CompleteAnnotate, CompletePenalty, ContinueSequence, CompleteSequenceRight, State, with_tasks, with_builder, Got}
 use Rattle.machine.specs.Solver.{begin_builder, finish_builder, singleton, memo_insert, complete_node}
 use Rattle.machine.specs.Solver.{checked_text, push_child, complete_singleton, begin_empty, begin_text, begin_newline, begin_sequence, begin_union, begin_group, begin_nest, skip_choices, push_alternatives, begin_choice, begin_kind, begin_known}

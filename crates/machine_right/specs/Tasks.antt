@@ -11,7 +11,6 @@ use Rattle.memo.specs.declared.CandidateRange.{CandidateRange}
 use Rattle.layout.specs.Document.{Doc}
 use Rattle.layout.specs.Rules.{Rules}
 use Rattle.layout.specs.Layout.{Plan}
-use Rattle.layout.specs.Choice.{each}
 use Rattle.layout.specs.Table.{Table}
 use Rattle.layout.specs.Frontier.{Cand, after, marked, charged, covers, load, build}
 use Rattle.layout.specs.Sieve.{load_append}

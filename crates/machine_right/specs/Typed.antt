@@ -7,7 +7,7 @@ use borrow.Author.Tests.{eqb-true}
 use Rattle.cost.specs.Logic.{and_left, and_right}
 use Rattle.memo.specs.declared.MemoKey.{MemoKey}
 use Rattle.memo.specs.declared.CandidateRange.{CandidateRange}
-use Rattle.memo.specs.declared.MemoLookup.TheVariants.{Found}
+use Rattle.std.specs.Prelude.{Some as Found}
 use Rattle.memo.specs.Entries.{Entry, same, lookup, stored, pick}
 use Rattle.layout.specs.Document.{Doc}
 use Rattle.layout.specs.Rules.{Rules}

@@ -3,6 +3,5 @@ pub mod Moves
 pub mod Turns
 pub mod Untested
 pub mod Passes
-pub mod Fills
 pub mod Parts
 pub mod Written

@@ -8,8 +8,8 @@ use native.Mathlib.Nat.{add-zero}
 use native.Mathlib.Numerals.{add-one}
 use borrow.Author.Tests.{eqb-true, eqb-false}
 use lib.Dec.{eqb}
-use lib.ListN.{length, length-drop, length-replicate, get_or, set, take, drop, replicate, take-append-drop}
-use lib.Seq.{get_or-set_same, get_or-set_other, take_all, drop-drop, length-take-le, take-suc-set, take-set-lt, drop-set-lt, get_or-take}
+use lib.ListN.{length, length-drop, get_or, set, take, drop, take-append-drop}
+use lib.Seq.{get_or-set_same, get_or-set_other, take_all, drop-drop, take-suc-set, take-set-lt, drop-set-lt, get_or-take}
 use Rattle.materialize.specs.declared.Walk.{Walk}
 use Rattle.materialize.specs.declared.Act.{Act}
 use Rattle.materialize.specs.declared.Act.TheVariants.{Pass, Put, Line, Open, Close}
@@ -29,30 +29,11 @@ part_wrote out ys bs (x ∷ post) at h n e = absurd (omega arith)
 none_left : (out : List ℕ) (at : ℕ) → length (drop (length out - at) (drop at out)) ≡ 0
 none_left out at = omega (arith, length-drop (length out - at) (drop at out), length-drop at out)
 
-pub put_wrote : (bytes out ys : List ℕ) (s l at : ℕ) → s + l ≤ length bytes → at + l ≤ length out
-    → ys ≡ take (s + l - s) (drop s bytes) ++ drop (length (take (s + l - s) (drop s bytes))) (take (length out - at) (drop at out))
-    → take at out ++ (ys ++ drop (length out - at) (drop at out)) ≡ wrote (take l (drop s bytes)) at out
-put_wrote bytes out ys s l at h k e =
-    let q : s + l - s ≡ l = omega arith in
-    let n : length (take l (drop s bytes)) ≡ l = length-take-le l (drop s bytes) (omega (arith, length-drop s bytes)) in
-    part_wrote out ys (take l (drop s bytes)) _ at (omega (arith, n)) (none_left out at) (rw q at e)
-
-pub line_wrote : (out ys : List ℕ) (i at : ℕ) → at + i < length out
-    → ys ≡ (10 ∷ replicate i 32) ++ drop (i + 1) (take (length out - at) (drop at out))
-    → take at out ++ (ys ++ drop (length out - at) (drop at out)) ≡ wrote (10 ∷ replicate i 32) at out
-line_wrote out ys i at h e =
-    let n : i + 1 ≡ length {A = ℕ} (10 ∷ replicate i 32) = omega (arith, length-replicate {A = ℕ} i 32) in
-    part_wrote out ys (10 ∷ replicate i 32) _ at (omega (arith, n)) (none_left out at)
-    (e ∙ ap (λ (k : ℕ). (10 ∷ replicate i 32) ++ drop k (take (length out - at) (drop at out))) n)
-
 pub wrote_none : (at : ℕ) (l : List ℕ) → l ≡ wrote [] at l
 wrote_none at l = rw (add-zero at) (sym (take-append-drop at l))
 
 pub under_top : (n : ℕ) (o : List ℕ) (d t : ℕ) → d ≡ suc t → Under n (pile o d) → get_or o t 0 < n
 under_top n o d t e h = (subst (λ (k : ℕ). Under n (pile o k)) e h).0
-
-pub parent_is : (o : List ℕ) (d t : ℕ) → d ≡ suc t → get_or o t 0 + 1 ≡ parent_word (innermost (pile o d))
-parent_is o d t e = rw e (add-one (get_or o t 0))
 
 pub under_more : (n m : ℕ) (o : List ℕ) → n ≤ m → Under n o → Under m o
 under_more n m [] l h = tt

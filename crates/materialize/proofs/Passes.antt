@@ -1,4 +1,7 @@
 -- The first pass: what holds between its turns, and what it comes to.
+use Rattle.std.specs.Prelude.{Result, Ok, Err}
+use Rattle.std.specs.Result.{IsErrAnd}
+use Rattle.std.proofs.lemmas.Result.{err_from_is_err_and}
 use mathlib.Core.Path.{◌≡◌, refl, sym, ap, subst, ◌∙◌}
 use mathlib.Core.List.{List, [], ◌∷◌, append-nil}
 use Prim.Native.Nat.{ℕ, zero, suc, ◌+◌, ◌≤◌, ◌<◌, max}
@@ -13,17 +16,14 @@ use Rattle.machine.specs.Events.{no_counts, visit, depth, Need, ret, emit, ◌>>
 use Rattle.machine.specs.Materializer.{marks, visit_plan, materialize}
 use Rattle.machine.specs.Enough.{peak}
 use Rattle.materialize.specs.declared.Capacity.{Capacity}
-use Rattle.materialize.specs.declared.Exhausted.{Exhausted}
 use Rattle.materialize.specs.declared.Exhausted.TheVariants.{Visit}
 use Rattle.materialize.specs.declared.Walk.{Walk}
 use Rattle.materialize.specs.declared.Act.{Act}
-use Rattle.materialize.specs.declared.Visited.{Visited}
-use Rattle.materialize.specs.declared.Visited.TheVariants.{Went, Stopped}
-use Rattle.materialize.specs.declared.Measured.TheVariants.{Page, Refused}
+use Rattle.materialize.specs.declared.Passed.{Passed}
 use Rattle.materialize.specs.Rows.{Row}
 use Rattle.materialize.specs.Texts.{text_row, InBytes}
-use Rattle.materialize.specs.Answer.{told}
-use Rattle.materialize.specs.Walks.{Around, begin, ran, pile, works, plan, ahead, pages, marks_in, puts, Sound, Walked, Turned, Answered}
+use Rattle.materialize.specs.Answer.{measured_with, passed_with, told}
+use Rattle.materialize.specs.Walks.{Visited, went, Around, begin, ran, pile, works, plan, ahead, pages, marks_in, puts, Sound, Walked, Turned, Answered}
 use Rattle.materialize.proofs.Runs.{Program, need_go, need_stop}
 use Rattle.materialize.proofs.Moves.{spans_length}
 
@@ -52,16 +52,20 @@ some_around = record {
   counts = no_counts;
 }
 
+-- what a `?` returns, where the error keeps its type
+pub err_is : {T E : Type 0} {r : Result T E} {d : E} → IsErrAnd r (λ e. e ≡ d) → r ≡ Err d
+err_is {r = r} h = let p = err_from_is_err_and r h in rw (p.1, p.2) refl
+
 -- ---- a turn's promise, by what it answers
 
-pub turned_went : (c : Capacity) (o : Around) (P X : List Row) (bytes e x : List ℕ) (w z : Walk) (a : Act) (r : Visited) → Turned c o P X bytes e w x r → r ≡ Went z a
+pub turned_went : (c : Capacity) (o : Around) (P X : List Row) (bytes e x : List ℕ) (w z : Walk) (a : Act) (r : Visited) → Turned c o P X bytes e w x r → r ≡ went z a
     → Walked c o P X bytes (pile e w.top) w (pile x z.top) z a
 turned_went c o P X bytes e x w z a r h q = subst (λ (s : Visited). Turned c o P X bytes e w x s) q h
 
-pub turned_stopped : (c : Capacity) (o : Around) (P X : List Row) (bytes e x : List ℕ) (w : Walk) (n : Exhausted) (m k : ℕ) (r : Visited)
-    → Turned c o P X bytes e w x r → r ≡ Stopped n m k
-    → ran c o w.visits (ahead (works (plan P X bytes) (pile e w.top)) w) ≡ told o.counts (Refused n m k)
-turned_stopped c o P X bytes e x w n m k r h q = subst (λ (s : Visited). Turned c o P X bytes e w x s) q h
+pub turned_stopped : (c : Capacity) (o : Around) (P X : List Row) (bytes e x : List ℕ) (w : Walk) (q : Passed) (r : Visited)
+    → Turned c o P X bytes e w x r → r ≡ Err q
+    → ran c o w.visits (ahead (works (plan P X bytes) (pile e w.top)) w) ≡ told o.counts (Err q)
+turned_stopped c o P X bytes e x w q r h p = subst (λ (s : Visited). Turned c o P X bytes e w x s) p h
 
 -- ---- between the turns
 
@@ -145,7 +149,7 @@ reaching_step {P = P} {X = X} {bytes = bytes} {w = w} {z = z} {high = high} {dee
 -- ---- what it comes to
 
 pub along_end : (c : Capacity) (P X : List Row) (bytes : List ℕ) (root : ℕ) (e : List ℕ) (w : Walk) (high deep : ℕ) → ((o : Around) → Along c o P X bytes root (pile e w.top) w)
-    → Reaching P X bytes root (pile e w.top) w high deep → w.top ≡ 0 → Answered c (plan P X bytes root) (Page w.at w.spans w.visits high deep)
+    → Reaching P X bytes root (pile e w.top) w high deep → w.top ≡ 0 → Answered c (plan P X bytes root) (Ok (measured_with w.at w.spans w.visits high deep))
 unfolding ran peak
 along_end c P X bytes root e w high deep h t q =
     let k : (o : Around) → Along c o P X bytes root [] w = λ o. subst (λ (n : ℕ). Along c o P X bytes root (pile e n) w) q (h o) in
@@ -158,9 +162,9 @@ along_end c P X bytes root e w high deep h t q =
       needing = (omega (arith, y.highest), omega (arith, y.deepest));
     }
 
-pub along_stop : (c : Capacity) (P X : List Row) (bytes : List ℕ) (root : ℕ) (S : List ℕ) (w : Walk) (n : Exhausted) (m k : ℕ) → ((o : Around) → Along c o P X bytes root S w)
-    → ((o : Around) → ran c o w.visits (ahead (works (plan P X bytes) S) w) ≡ told o.counts (Refused n m k)) → Answered c (plan P X bytes root) (Refused n m k)
-along_stop c P X bytes root S w n m k h q = record { answer = λ o. sym ((h o).leads ∙ q o); sized = tt; needing = tt }
+pub along_stop : (c : Capacity) (P X : List Row) (bytes : List ℕ) (root : ℕ) (S : List ℕ) (w : Walk) (e : Passed) → ((o : Around) → Along c o P X bytes root S w)
+    → ((o : Around) → ran c o w.visits (ahead (works (plan P X bytes) S) w) ≡ told o.counts (Err e)) → Answered c (plan P X bytes root) (Err e)
+along_stop c P X bytes root S w e h q = record { answer = λ o. sym ((h o).leads ∙ q o); sized = tt; needing = tt }
 
-pub none_fits : (c : Capacity) (p : Plan) → c.visit ≡ 0 → Answered c p (Refused Visit 1 0)
+pub none_fits : (c : Capacity) (p : Plan) → c.visit ≡ 0 → Answered c p (Err (passed_with Visit 1 0))
 none_fits c p h = record { answer = λ o. sym (ap (ran c o 0) (whole p) ∙ need_stop c o visit 0 1 (visit_plan p 0 0 0 0) (omega arith)); sized = tt; needing = tt }

@@ -1,4 +1,5 @@
 -- What each kind of layout emits first. An event, run: it goes on, or it stops. And n bytes tested one by one are one test.
+use Rattle.std.specs.Prelude.{Err}
 use mathlib.Core.Path.{◌≡◌, refl, ap, ◌∙◌}
 use mathlib.Core.Bool.{Bool, true, false}
 use Prim.Native.Nat.{ℕ, zero, suc, ◌+◌, ◌≤◌, ◌<◌}
@@ -15,8 +16,7 @@ use Rattle.machine.specs.Materializer.{marks, append_each, visit_plan}
 use Rattle.machine.specs.Just.{needless}
 use Rattle.materialize.specs.declared.Capacity.{Capacity}
 use Rattle.materialize.specs.declared.Exhausted.TheVariants.{Output, Visits}
-use Rattle.materialize.specs.declared.Measured.TheVariants.{Refused}
-use Rattle.materialize.specs.Answer.{with_visits, told}
+use Rattle.materialize.specs.Answer.{passed_with, with_visits, told}
 use Rattle.materialize.specs.Walks.{Around, limits, ran}
 
 abbrev pub Program : Type 0
@@ -60,7 +60,7 @@ module _ (c : Capacity) (o : Around) where
   unfolding ran
   visit_go v p h = rw (lt-ltb v c.visit_limit h)
 
-  pub visit_stop : (v : ℕ) (p : Program) → c.visit_limit ≤ v → ran c o v (emit Visit p) ≡ told o.counts (Refused Visits 0 v)
+  pub visit_stop : (v : ℕ) (p : Program) → c.visit_limit ≤ v → ran c o v (emit Visit p) ≡ told o.counts (Err (passed_with Visits 0 v))
   unfolding ran
   visit_stop v p h = rw (le-ltb v c.visit_limit h)
 
@@ -79,7 +79,7 @@ module _ (c : Capacity) (o : Around) where
   each_go v at (suc n) p h = need_go output v (at + 1) (append_each (at + 1) n >> p) (omega arith) ∙ each_go v (at + 1) n p (omega arith)
 
   abbrev Stops : ℕ → Program → Type 0
-  Stops v q = ran c o v q ≡ told o.counts (Refused Output (c.output + 1) v)
+  Stops v q = ran c o v q ≡ told o.counts (Err (passed_with Output (c.output + 1) v))
 
   pub each_stop : (v at n : ℕ) (p : Program) → at ≤ c.output → c.output < at + n → Stops v (append_each at n >> p)
   unfolding append_each
@@ -91,4 +91,4 @@ module _ (c : Capacity) (o : Around) where
       go false e f =
           let g : c.output < at + 1 = leb-false _ _ e in
           let q : at + 1 ≡ c.output + 1 = omega arith in
-          need_stop output v (at + 1) (append_each (at + 1) n >> p) g ∙ ap (λ (m : ℕ). told o.counts (Refused Output m v)) q
+          need_stop output v (at + 1) (append_each (at + 1) n >> p) g ∙ ap (λ (m : ℕ). told o.counts (Err (passed_with Output m v))) q

@@ -1,4 +1,5 @@
 -- What each way through a turn promises, over the tables and the words of the visit stack.
+use Rattle.std.specs.Prelude.{Err}
 use mathlib.Core.Path.{◌≡◌, refl, sym, ap, ap₂, subst, ◌∙◌}
 use mathlib.Core.Bool.{Bool, true, false, cond}
 use mathlib.Core.List.{List, ◌∷◌}
@@ -27,13 +28,10 @@ use Rattle.materialize.specs.declared.Exhausted.TheVariants.{Visit, Depth, Outpu
 use Rattle.materialize.specs.declared.Walk.{Walk}
 use Rattle.materialize.specs.declared.Act.{Act}
 use Rattle.materialize.specs.declared.Act.TheVariants.{Pass, Put, Line, Open, Close}
-use Rattle.materialize.specs.declared.Visited.{Visited}
-use Rattle.materialize.specs.declared.Visited.TheVariants.{Went, Stopped}
-use Rattle.materialize.specs.declared.Measured.TheVariants.{Refused}
 use Rattle.materialize.specs.Rows.{Row}
 use Rattle.materialize.specs.Texts.{text_row, text_at, InBytes}
-use Rattle.materialize.specs.Answer.{told}
-use Rattle.materialize.specs.Walks.{Around, ran, Work, Lay, item, pile, works, plan, ahead, exits, at_top, at_byte, one_more, text_turn, newline_turn, two_turn, two_words, annotate_turn, annotate_words, Valid, Sound, Standing, Moved, Walked, Turned}
+use Rattle.materialize.specs.Answer.{passed_with, told}
+use Rattle.materialize.specs.Walks.{Visited, went, stopped, Around, ran, Work, Lay, item, pile, works, plan, ahead, exits, at_top, at_byte, one_more, text_turn, newline_turn, two_turn, two_words, annotate_turn, annotate_words, Valid, Sound, Standing, Moved, Walked, Turned}
 use Rattle.materialize.proofs.Runs.{plan_blank, plan_put, plan_line, plan_join, plan_mark, plan_fee, visit_go, visit_stop, need_go, need_stop, each_stop}
 use Rattle.materialize.proofs.Moves.{step, moves_blank, moves_put, moves_line, moves_join, moves_mark, moves_fee, moves_exit}
 
@@ -90,7 +88,7 @@ turned_by c o P X bytes e w {x} {y} {r} {s} p q h =
     subst (λ (z : List ℕ). Turned c o P X bytes e w z r) (sym p) (subst (λ (z : Visited). Turned c o P X bytes e w y z) (sym q) h)
 
 first_stop : (c : Capacity) (o : Around) (k : ℕ) (p : Plan) (v d at n : ℕ) (r : Prog (Unit {0})) → c.visit_limit ≤ k
-    → ran c o k (visit_plan p v d at n >> r) ≡ told o.counts (Refused Visits 0 k)
+    → ran c o k (visit_plan p v d at n >> r) ≡ told o.counts (Err (passed_with Visits 0 k))
 first_stop c o k blank v d at n r h = ap (ran c o k) (plan_blank _ _ _ _ _) ∙ visit_stop c o k _ h
 first_stop c o k (put t) v d at n r h = ap (ran c o k) (plan_put _ _ _ _ _ t) ∙ visit_stop c o k _ h
 first_stop c o k (line i) v d at n r h = ap (ran c o k) (plan_line _ _ _ _ _ i) ∙ visit_stop c o k _ h
@@ -100,11 +98,11 @@ first_stop c o k (fee a p) v d at n r h = ap (ran c o k) (plan_fee _ _ _ _ _ a p
 
 -- the visit limit comes before the item
 pub spent : (c : Capacity) (o : Around) (P X : List Row) (bytes e : List ℕ) (w : Walk) (t : ℕ) → w.top ≡ suc t → c.visit_limit ≤ w.visits
-    → Turned c o P X bytes e w e (Stopped Visits 0 w.visits)
+    → Turned c o P X bytes e w e (stopped Visits 0 w.visits)
 spent c o P X bytes e w t q h =
-    subst (λ (n : ℕ). ran c o w.visits (ahead (works (plan P X bytes) (pile e n)) w) ≡ told o.counts (Refused Visits 0 w.visits)) (sym q) (go (get_or e t 0))
+    subst (λ (n : ℕ). ran c o w.visits (ahead (works (plan P X bytes) (pile e n)) w) ≡ told o.counts (Err (passed_with Visits 0 w.visits))) (sym q) (go (get_or e t 0))
   where
-    go : (x : ℕ) → ran c o w.visits (ahead (works (plan P X bytes) (x ∷ pile e t)) w) ≡ told o.counts (Refused Visits 0 w.visits)
+    go : (x : ℕ) → ran c o w.visits (ahead (works (plan P X bytes) (x ∷ pile e t)) w) ≡ told o.counts (Err (passed_with Visits 0 w.visits))
     go zero = visit_stop c o w.visits _ h
     go (suc i) = first_stop c o w.visits (plan P X bytes i) _ _ _ _ _ h
 
@@ -150,7 +148,7 @@ module _ (c : Capacity) (o : Around) (P X : List Row) (bytes e : List ℕ) (w : 
   abbrev After : List ℕ → Visited → Type 0
   After x r = Turned c o P X bytes e w x r
 
-  pub exit_turned : Popped c P X e w t 0 → After e (Went (record { top = t; depth = w.depth - 1; at = w.at; spans = w.spans; visits = w.visits + 1 }) Close)
+  pub exit_turned : Popped c P X e w t 0 → After e (went (record { top = t; depth = w.depth - 1; at = w.at; spans = w.spans; visits = w.visits + 1 }) Close)
   exit_turned p =
       let s = sound p in
       let d : w.depth ≡ suc (exits (pile e t)) = depth_top p in
@@ -175,9 +173,9 @@ module _ (c : Capacity) (o : Around) (P X : List Row) (bytes e : List ℕ) (w : 
         → ran c o w.visits (ahead (works g (pile e w.top)) w) ≡ r
     seen x q r h = rw (lays x q) h
 
-    went : (x : PlanNode) → node_at P i ≡ x → (S : List ℕ) (z : Walk) (a : Act)
+    walks : (x : PlanNode) → node_at P i ≡ x → (S : List ℕ) (z : Walk) (a : Act)
         → Moved c o bytes (Lay (laid x) ∷ under g e t) w (works g S) z a → Sound c (length P) S z → Walked c o P X bytes (pile e w.top) w S z a
-    went x q S z a m s = record { moved = rw (lays x q) m; sound = s }
+    walks x q S z a m s = record { moved = rw (lays x q) m; sound = s }
 
     room : t + 1 ≤ c.visit
     room = omega (arith, p.top_is, (sound p).top_le)
@@ -194,9 +192,9 @@ module _ (c : Capacity) (o : Around) (P X : List Row) (bytes e : List ℕ) (w : 
       valid = (valid_top p).1;
     }
 
-    pub empty_turned : node_at P i ≡ Empty → After e (Went (step w t) Pass)
+    pub empty_turned : node_at P i ≡ Empty → After e (went (step w t) Pass)
     empty_turned q =
-        went Empty q (pile e t) (step w t) Pass (moves_blank c o bytes (under g e t) w p.left t (under_length g e t) p.top_is)
+        walks Empty q (pile e t) (step w t) Pass (moves_blank c o bytes (under g e t) w p.left t (under_length g e t) p.top_is)
         (same_sound (step w t) (omega (arith, room)) (sound p).at_le refl refl refl)
 
     module _ (ib : InBytes X bytes) (u : TextId) (q : node_at P i ≡ Text u) where
@@ -216,10 +214,10 @@ module _ (c : Capacity) (o : Around) (P X : List Row) (bytes e : List ℕ) (w : 
       text_turned = go (leb (w.at + l) c.output) refl
         where
           go : (b : Bool) → leb (w.at + l) c.output ≡ b
-              → After e (cond b (Went (at_byte (step w t) (w.at + l)) (Put s l)) (Stopped Output (w.at + l) (w.visits + 1)))
+              → After e (cond b (went (at_byte (step w t) (w.at + l)) (Put s l)) (stopped Output (w.at + l) (w.visits + 1)))
           go true h =
               let m : w.at + l ≤ c.output = leb-true _ _ h in
-              went (Text u) q (pile e t) _ (Put s l) (moves_put c o bytes (under g e t) w p.left t (under_length g e t) p.top_is s l (text_at X bytes u.0) inside refl text_length m)
+              walks (Text u) q (pile e t) _ (Put s l) (moves_put c o bytes (under g e t) w p.left t (under_length g e t) p.top_is s l (text_at X bytes u.0) inside refl text_length m)
               (same_sound _ (omega (arith, room)) m refl refl refl)
           go false h =
               seen (Text u) q _ (ap (ran c o w.visits) (plan_put _ _ _ _ _ _) ∙ (visit_go c o w.visits _ p.left
@@ -229,10 +227,10 @@ module _ (c : Capacity) (o : Around) (P X : List Row) (bytes e : List ℕ) (w : 
     newline_turned n q = go (leb (w.at + n + 1) c.output) refl
       where
         go : (b : Bool) → leb (w.at + n + 1) c.output ≡ b
-            → After e (cond b (Went (at_byte (step w t) (w.at + n + 1)) (Line n)) (Stopped Output (c.output + 1) (w.visits + 1)))
+            → After e (cond b (went (at_byte (step w t) (w.at + n + 1)) (Line n)) (stopped Output (c.output + 1) (w.visits + 1)))
         go true h =
             let m : w.at + n + 1 ≤ c.output = leb-true _ _ h in
-            went (Newline n) q (pile e t) _ (Line n) (moves_line c o bytes (under g e t) w p.left t (under_length g e t) p.top_is n (omega arith)) (same_sound _ (omega (arith, room)) m refl refl refl)
+            walks (Newline n) q (pile e t) _ (Line n) (moves_line c o bytes (under g e t) w p.left t (under_length g e t) p.top_is n (omega arith)) (same_sound _ (omega (arith, room)) m refl refl refl)
         go false h =
             let m : c.output < w.at + n + 1 = leb-false _ _ h in
             seen (Newline n) q _ (ap (ran c o w.visits) (plan_line _ _ _ _ _ n) ∙ (visit_go c o w.visits _ p.left
@@ -245,13 +243,13 @@ module _ (c : Capacity) (o : Around) (P X : List Row) (bytes e : List ℕ) (w : 
     concat_turned l r q = go (leb (t + 2) c.visit) refl
       where
         go : (b : Bool) → leb (t + 2) c.visit ≡ b
-            → After (cond b (set (set e t (r.0 + 1)) (t + 1) (l.0 + 1)) e) (cond b (Went (at_top (step w t) (t + 2)) Pass) (Stopped Visit (t + 2) (w.visits + 1)))
+            → After (cond b (set (set e t (r.0 + 1)) (t + 1) (l.0 + 1)) e) (cond b (went (at_top (step w t) (t + 2)) Pass) (stopped Visit (t + 2) (w.visits + 1)))
         go true b =
             let h : t + 2 ≤ c.visit = leb-true _ _ b in
             let f = fine_at p (Concat l r) q in
             let n : length (under g e t) + 2 ≤ c.visit = rw (under_length g e t) h in
             rw (two (l.0 + 1) (r.0 + 1) (omega (arith, p.standing.visit_lent)), add-one l.0, add-one r.0)
-            (went (Concat l r) q (suc l.0 ∷ suc r.0 ∷ pile e t) (step w (t + 2)) Pass (moves_join c o bytes (under g e t) w p.left t (under_length g e t) p.top_is (g l.0) (g r.0) n)
+            (walks (Concat l r) q (suc l.0 ∷ suc r.0 ∷ pile e t) (step w (t + 2)) Pass (moves_join c o bytes (under g e t) w p.left t (under_length g e t) p.top_is (g l.0) (g r.0) n)
             (record {
               top_le = h;
               at_le = (sound p).at_le;
@@ -267,18 +265,18 @@ module _ (c : Capacity) (o : Around) (P X : List Row) (bytes e : List ℕ) (w : 
             (need_go c o visit (w.visits + 1) (t + 1) _ room ∙ need_stop c o visit (w.visits + 1) (t + 2) _ (leb-false _ _ b))))
 
     module _ (k : AnnotationId) (x : PlanId) (q : node_at P i ≡ Annotate k x) where
-      full_spans : c.spans < w.spans + 1 → After e (Stopped Spans (w.spans + 1) (w.visits + 1))
+      full_spans : c.spans < w.spans + 1 → After e (stopped Spans (w.spans + 1) (w.visits + 1))
       full_spans h =
           seen (Annotate k x) q _ (ap (ran c o w.visits) (plan_mark _ _ _ _ _ _ _) ∙ (visit_go c o w.visits _ p.left
           ∙ need_stop c o spans (w.visits + 1) (w.spans + 1) _ h))
 
-      full_depth : w.spans + 1 ≤ c.spans → c.depth < w.depth + 1 → After e (Stopped Depth (w.depth + 1) (w.visits + 1))
+      full_depth : w.spans + 1 ≤ c.spans → c.depth < w.depth + 1 → After e (stopped Depth (w.depth + 1) (w.visits + 1))
       full_depth s h =
           seen (Annotate k x) q _ (ap (ran c o w.visits) (plan_mark _ _ _ _ _ _ _) ∙ (visit_go c o w.visits _ p.left
           ∙ (need_go c o spans (w.visits + 1) (w.spans + 1) _ s
           ∙ need_stop c o depth (w.visits + 1) (w.depth + 1) _ h)))
 
-      full_visit : w.spans + 1 ≤ c.spans → w.depth + 1 ≤ c.depth → c.visit < t + 2 → After e (Stopped Visit (t + 2) (w.visits + 1))
+      full_visit : w.spans + 1 ≤ c.spans → w.depth + 1 ≤ c.depth → c.visit < t + 2 → After e (stopped Visit (t + 2) (w.visits + 1))
       full_visit s d h =
           seen (Annotate k x) q _ (ap (ran c o w.visits) (plan_mark _ _ _ _ _ _ _) ∙ (visit_go c o w.visits _ p.left
           ∙ (need_go c o spans (w.visits + 1) (w.spans + 1) _ s
@@ -286,13 +284,13 @@ module _ (c : Capacity) (o : Around) (P X : List Row) (bytes e : List ℕ) (w : 
           ∙ rw (under_length g e t) (need_go c o visit (w.visits + 1) (t + 1) _ room ∙ need_stop c o visit (w.visits + 1) (t + 2) _ h)))))
 
       opens : w.spans + 1 ≤ c.spans → w.depth + 1 ≤ c.depth → t + 2 ≤ c.visit
-          → After (set (set e t 0) (t + 1) (x.0 + 1)) (Went (record { top = t + 2; depth = w.depth + 1; at = w.at; spans = w.spans + 1; visits = w.visits + 1 }) (Open k))
+          → After (set (set e t 0) (t + 1) (x.0 + 1)) (went (record { top = t + 2; depth = w.depth + 1; at = w.at; spans = w.spans + 1; visits = w.visits + 1 }) (Open k))
       opens s d h =
           let f = fine_at p (Annotate k x) q in
           let n : length (under g e t) + 2 ≤ c.visit = rw (under_length g e t) h in
           let y : w.depth ≡ exits (pile e t) = depth_top p in
           rw (two (x.0 + 1) 0 (omega (arith, p.standing.visit_lent)), add-one x.0)
-          (went (Annotate k x) q (suc x.0 ∷ 0 ∷ pile e t) _ (Open k) (moves_mark c o bytes (under g e t) w p.left t (under_length g e t) p.top_is k (g x.0) n s d)
+          (walks (Annotate k x) q (suc x.0 ∷ 0 ∷ pile e t) _ (Open k) (moves_mark c o bytes (under g e t) w p.left t (under_length g e t) p.top_is k (g x.0) n s d)
           (record {
             top_le = h;
             at_le = (sound p).at_le;
@@ -307,27 +305,27 @@ module _ (c : Capacity) (o : Around) (P X : List Row) (bytes e : List ℕ) (w : 
       annotate_turned = by_spans (leb (w.spans + 1) c.spans) refl
         where
           by_visit : (b : Bool) → leb (t + 2) c.visit ≡ b → w.spans + 1 ≤ c.spans → w.depth + 1 ≤ c.depth
-              → After (cond b (set (set e t 0) (t + 1) (x.0 + 1)) e) (cond b (Went (at_top (one_more (step w t)) (t + 2)) (Open k)) (Stopped Visit (t + 2) (w.visits + 1)))
+              → After (cond b (set (set e t 0) (t + 1) (x.0 + 1)) e) (cond b (went (at_top (one_more (step w t)) (t + 2)) (Open k)) (stopped Visit (t + 2) (w.visits + 1)))
           by_visit true b s d = opens s d (leb-true _ _ b)
           by_visit false b s d = full_visit s d (leb-false _ _ b)
 
           by_depth : (b : Bool) → leb (w.depth + 1) c.depth ≡ b → w.spans + 1 ≤ c.spans
-              → After (cond b (two_words c (step w t) 0 (x.0 + 1) e) e) (cond b (two_turn c (one_more (step w t)) (Open k)) (Stopped Depth (w.depth + 1) (w.visits + 1)))
+              → After (cond b (two_words c (step w t) 0 (x.0 + 1) e) e) (cond b (two_turn c (one_more (step w t)) (Open k)) (stopped Depth (w.depth + 1) (w.visits + 1)))
           by_depth true b s = by_visit (leb (t + 2) c.visit) refl s (leb-true _ _ b)
           by_depth false b s = full_depth s (leb-false _ _ b)
 
           by_spans : (b : Bool) → leb (w.spans + 1) c.spans ≡ b
               → After (cond b (cond (leb (w.depth + 1) c.depth) (two_words c (step w t) 0 (x.0 + 1) e) e) e)
-              (cond b (cond (leb (w.depth + 1) c.depth) (two_turn c (one_more (step w t)) (Open k)) (Stopped Depth (w.depth + 1) (w.visits + 1))) (Stopped Spans (w.spans + 1) (w.visits + 1)))
+              (cond b (cond (leb (w.depth + 1) c.depth) (two_turn c (one_more (step w t)) (Open k)) (stopped Depth (w.depth + 1) (w.visits + 1))) (stopped Spans (w.spans + 1) (w.visits + 1)))
           by_spans true b = by_depth (leb (w.depth + 1) c.depth) refl (leb-true _ _ b)
           by_spans false b = full_spans (leb-false _ _ b)
 
-    pub penalty_turned : (a : ℕ) (x : PlanId) → node_at P i ≡ Penalty a x → After (set e t (x.0 + 1)) (Went (step w (t + 1)) Pass)
+    pub penalty_turned : (a : ℕ) (x : PlanId) → node_at P i ≡ Penalty a x → After (set e t (x.0 + 1)) (went (step w (t + 1)) Pass)
     penalty_turned a x q =
         let f = fine_at p (Penalty a x) q in
         let n : length (under g e t) + 1 ≤ c.visit = rw (under_length g e t) room in
         rw (pile_one e t (x.0 + 1) (omega (arith, room, p.standing.visit_lent)), add-one x.0)
-        (went (Penalty a x) q (suc x.0 ∷ pile e t) (step w (t + 1)) Pass (moves_fee c o bytes (under g e t) w p.left t (under_length g e t) p.top_is a (g x.0) n)
+        (walks (Penalty a x) q (suc x.0 ∷ pile e t) (step w (t + 1)) Pass (moves_fee c o bytes (under g e t) w p.left t (under_length g e t) p.top_is a (g x.0) n)
         (record {
           top_le = room;
           at_le = (sound p).at_le;

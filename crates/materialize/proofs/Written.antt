@@ -15,14 +15,12 @@ use Rattle.materialize.specs.declared.Capacity.{Capacity}
 use Rattle.materialize.specs.declared.Walk.{Walk}
 use Rattle.materialize.specs.declared.Act.{Act}
 use Rattle.materialize.specs.declared.Act.TheVariants.{Pass, Put, Line, Open, Close}
-use Rattle.materialize.specs.declared.Visited.{Visited}
-use Rattle.materialize.specs.declared.Visited.TheVariants.{Went}
 use Rattle.materialize.specs.declared.Mark.{Mark}
 use Rattle.materialize.specs.declared.Mark.TheVariants.{Nothing, Open as Opens, Close as Closes}
 use Rattle.materialize.specs.Rows.{Row, span_rows, Fits}
 use Rattle.materialize.specs.Texts.{InBytes}
 use Rattle.materialize.specs.Answer.{with_visits, over}
-use Rattle.materialize.specs.Walks.{Around, begin, ran, pile, works, plan, ahead, pages, ends, puts, Room, Passing, Sound, Standing, Walked, Turned}
+use Rattle.materialize.specs.Walks.{Visited, went, Around, begin, ran, pile, works, plan, ahead, pages, ends, puts, Room, Passing, Sound, Standing, Walked, Turned}
 use Rattle.materialize.specs.Writes.{wrote, Under, depth_after, mark_of, MarkFits, ActFits, Allowed, Performed, Turning, Stepped, Passes, Written, Writing}
 use Rattle.materialize.proofs.Parts.{spans_after, under_more, open_is, top_under, parent_low, rows_is, past_is, spans_rise, under_is, rows_fit, drop_later}
 use Rattle.materialize.proofs.Untested.{never}
@@ -74,7 +72,7 @@ module _ {c : Capacity} {P X : List Row} {bytes : List ℕ} {root : ℕ} {S U : 
 
 -- what a turn may do, and what it promises
 module _ {c : Capacity} {P X : List Row} {bytes e o out : List ℕ} {w : Walk} (t : Turning c P X bytes e o out w) {r : Visited} (x : List ℕ) {z : Walk} {a : Act}
-    (turned : (i : Around) (bs : List ℕ) → InBytes X bs → Turned c i P X bs e w x r) (q : r ≡ Went z a) where
+    (turned : (i : Around) (bs : List ℕ) → InBytes X bs → Turned c i P X bs e w x r) (q : r ≡ went z a) where
   walked : (i : Around) → Walked c i P X bytes (pile e w.top) w (pile x z.top) z a
   walked i = turned_went c i P X bytes e x w z a r (turned i bytes t.inside) q
 

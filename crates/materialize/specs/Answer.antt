@@ -1,5 +1,5 @@
 -- What the materializer answers, in the machine's words, and what stands in output and spans afterwards.
-use Rattle.std.specs.Prelude.{◌≡◌, List, ◌++◌, ℕ, ◌≤◌, ◌<◌, ◌^◌, length, drop}
+use Rattle.std.specs.Prelude.{◌≡◌, Result, Ok, Err, List, ◌++◌, ℕ, ◌≤◌, ◌<◌, ◌^◌, length, drop}
 use Rattle.layout.specs.Layout.{Plan, page}
 use Rattle.layout.specs.Spans.{spans}
 use Rattle.machine.specs.Events.{Counts, no_needs, Why, too_small, visits_spent, Out, done, stop}
@@ -9,9 +9,20 @@ use Rattle.machine.specs.Enough.{peak}
 use Rattle.materialize.specs.declared.Capacity.{Capacity}
 use Rattle.materialize.specs.declared.Exhausted.{Exhausted}
 use Rattle.materialize.specs.declared.Exhausted.TheVariants.{Visit, Depth, Output, Spans, Visits}
-use Rattle.materialize.specs.declared.Measured.{Measured}
-use Rattle.materialize.specs.declared.Measured.TheVariants.{Page, Refused}
+use Rattle.materialize.specs.declared.MeasuredPage.{MeasuredPage}
+use Rattle.materialize.specs.declared.Passed.{Passed}
 use Rattle.materialize.specs.Rows.{Row}
+
+-- what the first pass answers
+abbrev pub Measured : Type 0
+Measured = Result MeasuredPage Passed
+
+-- a page and what is passed, by their parts
+abbrev pub measured_with : ℕ → ℕ → ℕ → ℕ → ℕ → MeasuredPage
+measured_with n m v x d = record { bytes = n; spans = m; visits = v; visit = x; depth = d }
+
+abbrev pub passed_with : Exhausted → ℕ → ℕ → Passed
+passed_with e needed v = record { what = e; needed = needed; visits = v }
 
 -- why the machine stops: document 01's 18 to 22
 abbrev pub why_of : Exhausted → Why
@@ -38,18 +49,18 @@ with_visits k v = record {
 
 -- what a run comes to where this is the answer: the end, or why it stops, the needed size, and the counts there
 abbrev pub told : Counts → Measured → Out (Unit {0})
-told k (Page n m v x d) = done (with_visits k v) tt
-told k (Refused e needed v) = stop (why_of e) needed (with_visits k v)
+told k (Ok m) = done (with_visits k m.visits) tt
+told k (Err e) = stop (why_of e.what) e.needed (with_visits k e.visits)
 
 -- a page's length and number of spans are the layout's
 abbrev pub Sized : Plan → Measured → Type 0
-Sized p (Page n m v x d) = (n ≡ length (page p)) × (m ≡ length (spans p))
-Sized p (Refused e needed v) = Unit {0}
+Sized p (Ok m) = (m.bytes ≡ length (page p)) × (m.spans ≡ length (spans p))
+Sized p (Err e) = Unit {0}
 
 -- the most items on the visit stack and the most open spans are what the materializer needs of them (document 02, change 10)
 abbrev pub Needing : Plan → Measured → Type 0
-Needing p (Page n m v x d) = (x ≡ peak visit_size (materialize p)) × (d ≡ peak depth_size (materialize p))
-Needing p (Refused e needed v) = Unit {0}
+Needing p (Ok m) = (m.visit ≡ peak visit_size (materialize p)) × (m.depth ≡ peak depth_size (materialize p))
+Needing p (Err e) = Unit {0}
 
 -- xs lies over the front of l, and what is past it stays
 abbrev pub over : {A : Type 0} → List A → List A → List A

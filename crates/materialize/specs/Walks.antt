@@ -1,5 +1,5 @@
 -- What the visit stack will come to, what a turn of the walk promises, and what the first pass does (`Answered`, which `render` cites).
-use Rattle.std.specs.Prelude.{◌≡◌, Bool, false, cond, List, [], ◌∷◌, ◌++◌, map, ℕ, zero, suc, ◌+◌, ◌-◌, ◌≤◌, ◌<◌, ◌^◌, max, leb, length, get_or, set, take, drop, replicate}
+use Rattle.std.specs.Prelude.{◌≡◌, Result, Ok, Err, Bool, false, cond, List, [], ◌∷◌, ◌++◌, map, ℕ, zero, suc, ◌+◌, ◌-◌, ◌≤◌, ◌<◌, ◌^◌, max, leb, length, get_or, set, take, drop, replicate}
 use Rattle.std.proofs.Math.Option.{Option, none, some}
 use Rattle.file_tables.specs.declared.AnnotationId.{AnnotationId}
 use Rattle.layout.specs.Layout.{Plan, page}
@@ -12,17 +12,15 @@ use Rattle.machine.specs.Materializer.{marks, visit_plan, materialize}
 use Rattle.machine.specs.Enough.{peak}
 use Rattle.machine.specs.Just.{bare_out}
 use Rattle.materialize.specs.declared.Capacity.{Capacity}
+use Rattle.materialize.specs.declared.Exhausted.{Exhausted}
 use Rattle.materialize.specs.declared.Exhausted.TheVariants.{Visit, Depth, Output, Spans}
 use Rattle.materialize.specs.declared.Walk.{Walk}
 use Rattle.materialize.specs.declared.Act.{Act}
 use Rattle.materialize.specs.declared.Act.TheVariants.{Pass, Put, Line, Open, Close}
-use Rattle.materialize.specs.declared.Visited.{Visited}
-use Rattle.materialize.specs.declared.Visited.TheVariants.{Went, Stopped}
-use Rattle.materialize.specs.declared.Measured.{Measured}
-use Rattle.materialize.specs.declared.Measured.TheVariants.{Refused}
+use Rattle.materialize.specs.declared.Passed.{Passed}
 use Rattle.materialize.specs.Rows.{Row, row_of}
 use Rattle.materialize.specs.Texts.{layout, InBytes}
-use Rattle.materialize.specs.Answer.{with_visits, told, Sized, Needing, Small}
+use Rattle.materialize.specs.Answer.{Measured, passed_with, with_visits, told, Sized, Needing, Small}
 
 -- ---- runs
 
@@ -154,6 +152,16 @@ rows Close at o s = close_last s o at
 
 -- ---- the parts of a turn, once an item is taken
 
+-- what a turn comes to
+abbrev pub Visited : Type 0
+Visited = Result (Walk × Act) Passed
+
+abbrev pub went : Walk → Act → Visited
+went z a = Ok (z, a)
+
+abbrev pub stopped : Exhausted → ℕ → ℕ → Visited
+stopped e needed v = Err (passed_with e needed v)
+
 abbrev pub at_top : Walk → ℕ → Walk
 at_top w t = record { top = t; depth = w.depth; at = w.at; spans = w.spans; visits = w.visits }
 
@@ -165,15 +173,15 @@ one_more w = record { top = w.top; depth = w.depth + 1; at = w.at; spans = w.spa
 
 -- a text needs the bytes so far and all of its own
 abbrev pub text_turn : Capacity → Walk → ℕ → ℕ → Visited
-text_turn c w s l = cond (leb (w.at + l) c.output) (Went (at_byte w (w.at + l)) (Put s l)) (Stopped Output (w.at + l) w.visits)
+text_turn c w s l = cond (leb (w.at + l) c.output) (went (at_byte w (w.at + l)) (Put s l)) (stopped Output (w.at + l) w.visits)
 
 -- a newline and its spaces are put one by one: the first that has no place needs one more than the size
 abbrev pub newline_turn : Capacity → Walk → ℕ → Visited
-newline_turn c w i = cond (leb (w.at + i + 1) c.output) (Went (at_byte w (w.at + i + 1)) (Line i)) (Stopped Output (c.output + 1) w.visits)
+newline_turn c w i = cond (leb (w.at + i + 1) c.output) (went (at_byte w (w.at + i + 1)) (Line i)) (stopped Output (c.output + 1) w.visits)
 
 -- two words are pushed
 abbrev pub two_turn : Capacity → Walk → Act → Visited
-two_turn c w a = cond (leb (w.top + 2) c.visit) (Went (at_top w (w.top + 2)) a) (Stopped Visit (w.top + 2) w.visits)
+two_turn c w a = cond (leb (w.top + 2) c.visit) (went (at_top w (w.top + 2)) a) (stopped Visit (w.top + 2) w.visits)
 
 abbrev pub two_words : Capacity → Walk → ℕ → ℕ → List ℕ → List ℕ
 two_words c w below above e = cond (leb (w.top + 2) c.visit) (set (set e w.top below) (w.top + 1) above) e
@@ -182,8 +190,8 @@ two_words c w below above e = cond (leb (w.top + 2) c.visit) (set (set e w.top b
 abbrev pub annotate_turn : Capacity → Walk → AnnotationId → Visited
 annotate_turn c w k =
     cond (leb (w.spans + 1) c.spans)
-    (cond (leb (w.depth + 1) c.depth) (two_turn c (one_more w) (Open k)) (Stopped Depth (w.depth + 1) w.visits))
-    (Stopped Spans (w.spans + 1) w.visits)
+    (cond (leb (w.depth + 1) c.depth) (two_turn c (one_more w) (Open k)) (stopped Depth (w.depth + 1) w.visits))
+    (stopped Spans (w.spans + 1) w.visits)
 
 abbrev pub annotate_words : Capacity → Walk → ℕ → List ℕ → List ℕ
 annotate_words c w above e = cond (leb (w.spans + 1) c.spans) (cond (leb (w.depth + 1) c.depth) (two_words c w 0 above e) e) e
@@ -194,7 +202,7 @@ annotate_words c w above e = cond (leb (w.spans + 1) c.spans) (cond (leb (w.dept
 pub record Goes (r : Visited) : Type 0 where
   pub walk : Walk
   pub act : Act
-  pub is : r ≡ Went walk act
+  pub is : r ≡ went walk act
 
 abbrev pub Sure : Bool → Visited → Type 0
 Sure tested r = tested ≡ false → Goes r
@@ -257,8 +265,8 @@ pub record Walked (c : Capacity) (o : Around) (P X : List Row) (bytes S : List �
 
 -- the promise of a turn: e, x are the visit stack's words before and after
 abbrev pub Turned : Capacity → Around → List Row → List Row → List ℕ → List ℕ → Walk → List ℕ → Visited → Type 0
-Turned c o P X bytes e w x (Went z a) = Walked c o P X bytes (pile e w.top) w (pile x z.top) z a
-Turned c o P X bytes e w x (Stopped q m v) = ran c o w.visits (ahead (works (plan P X bytes) (pile e w.top)) w) ≡ told o.counts (Refused q m v)
+Turned c o P X bytes e w x (Ok y) = Walked c o P X bytes (pile e w.top) w (pile x y.0.top) y.0 y.1
+Turned c o P X bytes e w x (Err q) = ran c o w.visits (ahead (works (plan P X bytes) (pile e w.top)) w) ≡ told o.counts (Err q)
 
 -- the promise of the first pass
 pub record Answered (c : Capacity) (p : Plan) (r : Measured) : Type 0 where

@@ -8,7 +8,7 @@ ghost use Rattle.file_tables.specs.Tables.{byte_start, byte_length};
 ghost use Rattle.materialize.specs.Rows.{parent_word};
 ghost use Rattle.materialize.specs.Texts.{text_row, InBytes, Planned};
 ghost use Rattle.materialize.specs.Answer.{Small, Lent};
-ghost use Rattle.materialize.specs.Walks.{Around, pile, plan, innermost, begin, at_top, text_turn, newline_turn, two_turn, two_words, annotate_turn, annotate_words, Sure, Standing, Passing, Turned, Answered};
+ghost use Rattle.materialize.specs.Walks.{Around, pile, plan, innermost, begin, at_top, went, text_turn, newline_turn, two_turn, two_words, annotate_turn, annotate_words, Sure, Standing, Passing, Turned, Answered};
 ghost use Rattle.materialize.specs.Writes.{wrote, Under, depth_after, mark_of, marked, MarkFits, Allowed, Performed, InUse, Turning, Stepped, Passes, Written};
 
 use file_tables::{AnnotationId, TextId};
@@ -34,12 +34,25 @@ pub enum Exhausted {
     Visits,
 }
 
-// A page: its bytes, its spans, and the visits; then the most items on the visit stack, and the most open spans. A refusal: what is needed (0 for the visit limit), and the visits before it.
+// A page: its bytes, its spans, and the visits; then the most items on the visit stack, and the most open spans.
 #[derive(Clone, Copy)]
-pub enum Measured {
-    Page(usize, usize, u64, usize, usize),
-    Refused(Exhausted, usize, u64),
+pub struct MeasuredPage {
+    pub bytes: usize,
+    pub spans: usize,
+    pub visits: u64,
+    pub visit: usize,
+    pub depth: usize,
 }
+
+// The size or the limit that is passed: what is needed of it (0 for the visit limit), and the visits before it.
+#[derive(Clone, Copy)]
+pub struct Passed {
+    pub what: Exhausted,
+    pub needed: usize,
+    pub visits: u64,
+}
+
+pub type Measured = Result<MeasuredPage, Passed>;
 
 // Where a walk stands: items on the visit stack, open spans, bytes and spans so far, items taken.
 #[derive(Clone, Copy)]
@@ -61,11 +74,8 @@ pub enum Act {
     Close,
 }
 
-#[derive(Clone, Copy)]
-pub enum Visited {
-    Went(Walk, Act),
-    Stopped(Exhausted, usize, u64),
-}
+// Where the walk stands once an item is taken, and what that puts.
+pub type Visited = Result<(Walk, Act), Passed>;
 
 // What an item makes of the list of spans: nothing; the span of a number opens, with its annotation, its position, and its parent's word (0, or one more than the parent's number); it closes at a position.
 #[derive(Clone, Copy)]
@@ -104,25 +114,12 @@ fn word_of(id: PlanId) -> usize
     wide(id.0) + 1
 }
 
-// The larger of two numbers.
-fn larger(a: usize, b: usize) -> usize
-    ensures { result ≡ max a b }
-{
-    if a < b {
-        return b;
-    }
-    a
-}
-
 // Whether a size is exceeded. What is not tested is known to fit, so the second pass does not test again.
 fn exceeds(tested: bool, needed: usize, size: usize) -> bool
     requires { tested ≡ false → leb needed size ≡ true }
     ensures { (result ≡ true → size < needed) × (result ≡ false → needed ≤ size) }
 {
-    if tested {
-        return size < needed;
-    }
-    false
+    tested && size < needed
 }
 
 fn visit_text(capacity: Capacity, tested: bool, w: Walk, texts: &[[u32; 3]], id: TextId) -> Visited
@@ -134,11 +131,13 @@ fn visit_text(capacity: Capacity, tested: bool, w: Walk, texts: &[[u32; 3]], id:
     let len = wide(row[1]);
     let end = w.at + len;
     if exceeds(tested, end, capacity.output) {
-        return Visited::Stopped(Exhausted::Output, end, w.visits);
+        return Err(Passed {
+            what: Exhausted::Output,
+            needed: end,
+            visits: w.visits,
+        });
     }
-    let mut z = w;
-    z.at = end;
-    Visited::Went(z, Act::Put(start, len))
+    Ok((Walk { at: end, ..w }, Act::Put(start, len)))
 }
 
 // One test for all its bytes: a newline that has no place costs no loop.
@@ -149,12 +148,13 @@ fn visit_newline(capacity: Capacity, tested: bool, w: Walk, columns: u32) -> Vis
     let indent = wide(columns);
     let end = w.at + indent + 1;
     if exceeds(tested, end, capacity.output) {
-        let needed = capacity.output + 1;
-        return Visited::Stopped(Exhausted::Output, needed, w.visits);
+        return Err(Passed {
+            what: Exhausted::Output,
+            needed: capacity.output + 1,
+            visits: w.visits,
+        });
     }
-    let mut z = w;
-    z.at = end;
-    Visited::Went(z, Act::Line(indent))
+    Ok((Walk { at: end, ..w }, Act::Line(indent)))
 }
 
 // Two items go on the visit stack. (The first alone always has a place: it takes that of the item just taken.)
@@ -173,13 +173,15 @@ fn push_visits(
     let top = w.top;
     let needed = top + 2;
     if exceeds(tested, needed, capacity.visit) {
-        return Visited::Stopped(Exhausted::Visit, needed, w.visits);
+        return Err(Passed {
+            what: Exhausted::Visit,
+            needed,
+            visits: w.visits,
+        });
     }
     visit[top] = below;
     visit[top + 1] = above;
-    let mut z = w;
-    z.top = needed;
-    Visited::Went(z, act)
+    Ok((Walk { top: needed, ..w }, act))
 }
 
 // Spans, then depth, then the visit stack.
@@ -196,16 +198,22 @@ fn visit_annotate(
 {
     let spans = w.spans + 1;
     if exceeds(tested, spans, capacity.spans) {
-        return Visited::Stopped(Exhausted::Spans, spans, w.visits);
+        return Err(Passed {
+            what: Exhausted::Spans,
+            needed: spans,
+            visits: w.visits,
+        });
     }
     let depth = w.depth + 1;
     if exceeds(tested, depth, capacity.depth) {
-        return Visited::Stopped(Exhausted::Depth, depth, w.visits);
+        return Err(Passed {
+            what: Exhausted::Depth,
+            needed: depth,
+            visits: w.visits,
+        });
     }
     let above = word_of(child);
-    let mut z = w;
-    z.spans = spans;
-    z.depth = depth;
+    let z = Walk { spans, depth, ..w };
     push_visits(capacity, tested, z, Act::Open(annotation), 0, above, visit)
 }
 
@@ -227,13 +235,16 @@ fn visit_concat(
 
 fn visit_penalty(w: Walk, child: PlanId, visit: &mut [usize]) -> Visited
     requires { w.top < length visit.old }
-    ensures { (result ≡ Visited.Went (at_top w (w.top + 1)) Act.Pass) × (visit.new ≡ set visit.old w.top (child.0 + 1)) }
+    ensures { (result ≡ went (at_top w (w.top + 1)) Act.Pass) × (visit.new ≡ set visit.old w.top (child.0 + 1)) }
 {
-    let top = w.top;
-    visit[top] = word_of(child);
-    let mut z = w;
-    z.top = top + 1;
-    Visited::Went(z, Act::Pass)
+    visit[w.top] = word_of(child);
+    Ok((
+        Walk {
+            top: w.top + 1,
+            ..w
+        },
+        Act::Pass,
+    ))
 }
 
 // One item is taken off the visit stack: what it puts, and where the walk stands then; or the first size that it passes.
@@ -250,34 +261,28 @@ fn visit_item(
 {
     let top = w.top - 1;
     let item = visit[top];
-    let mut z = w;
-    z.top = top;
-    z.visits = w.visits + 1;
+    let mut z = Walk {
+        top,
+        visits: w.visits + 1,
+        ..w
+    };
     if item == 0 {
         z.depth = w.depth - 1;
-        return Visited::Went(z, Act::Close);
+        return Ok((z, Act::Close));
     }
     let id = PlanId((item - 1) as u32);
     let node = plan_node(plans, id);
     match node {
-        PlanNode::Empty => {
-            return Visited::Went(z, Act::Pass);
-        }
-        PlanNode::Text(text) => {
-            return visit_text(capacity, tested, z, texts, text);
-        }
-        PlanNode::Newline { indent } => {
-            return visit_newline(capacity, tested, z, indent);
-        }
+        PlanNode::Empty => Ok((z, Act::Pass)),
+        PlanNode::Text(text) => visit_text(capacity, tested, z, texts, text),
+        PlanNode::Newline { indent } => visit_newline(capacity, tested, z, indent),
         PlanNode::Concat { left, right } => {
-            return visit_concat(capacity, tested, z, left, right, visit);
+            visit_concat(capacity, tested, z, left, right, visit)
         }
         PlanNode::Annotate { annotation, child } => {
-            return visit_annotate(capacity, tested, z, annotation, child, visit);
+            visit_annotate(capacity, tested, z, annotation, child, visit)
         }
-        PlanNode::Penalty { amount: _, child } => {
-            return visit_penalty(z, child, visit);
-        }
+        PlanNode::Penalty { amount: _, child } => visit_penalty(z, child, visit),
     }
 }
 
@@ -308,29 +313,36 @@ pub fn measure(
     ensures { (bytes : List ℕ) → InBytes texts.now bytes → Answered capacity (plan plans.now texts.now bytes root.0) result }
 {
     if capacity.visit == 0 {
-        return Measured::Refused(Exhausted::Visit, 1, 0);
+        return Err(Passed {
+            what: Exhausted::Visit,
+            needed: 1,
+            visits: 0,
+        });
     }
-    let number = root.0;
-    let mut w = begin_walk(visit, PlanId(number));
-    let mut highest: usize = 1;
-    let mut deepest: usize = 0;
+    let mut w = begin_walk(visit, root);
+    let mut highest = 1;
+    let mut deepest = 0;
+    // A while loop: the visit stack grows and shrinks, so there is no range to go over.
     while 0 < w.top {
         if capacity.visit_limit <= w.visits {
-            return Measured::Refused(Exhausted::Visits, 0, w.visits);
+            return Err(Passed {
+                what: Exhausted::Visits,
+                needed: 0,
+                visits: w.visits,
+            });
         }
-        let s = visit_item(capacity, true, w, plans, texts, visit);
-        match s {
-            Visited::Stopped(e, needed, visits) => {
-                return Measured::Refused(e, needed, visits);
-            }
-            Visited::Went(z, _) => {
-                highest = larger(highest, z.top);
-                deepest = larger(deepest, z.depth);
-                w = z;
-            }
-        }
+        let (z, _) = visit_item(capacity, true, w, plans, texts, visit)?;
+        highest = highest.max(z.top);
+        deepest = deepest.max(z.depth);
+        w = z;
     }
-    Measured::Page(w.at, w.spans, w.visits, highest, deepest)
+    Ok(MeasuredPage {
+        bytes: w.at,
+        spans: w.spans,
+        visits: w.visits,
+        visit: highest,
+        depth: deepest,
+    })
 }
 
 // The bytes of `bytes` at the front of `output`, the part that starts at the current write position.
@@ -338,11 +350,7 @@ fn append_output(bytes: &[u8], output: &mut [u8])
     requires { length bytes.now ≤ length output.old }
     ensures { output.new ≡ bytes.now ++ drop (length bytes.now) output.old }
 {
-    let mut i: usize = 0;
-    while i < bytes.len() {
-        output[i] = bytes[i];
-        i += 1;
-    }
+    output[..bytes.len()].copy_from_slice(bytes);
 }
 
 // A newline and its spaces at the front of `output`, likewise.
@@ -351,11 +359,7 @@ fn append_newline(indent: usize, output: &mut [u8])
     ensures { output.new ≡ (10 ∷ replicate indent 32) ++ drop (indent + 1) output.old }
 {
     output[0] = 10;
-    let mut i: usize = 0;
-    while i < indent {
-        i += 1;
-        output[i] = 32;
-    }
+    output[1..indent + 1].fill(32);
 }
 
 // A text, from the position on.
@@ -363,8 +367,7 @@ fn put_text(bytes: &[u8], start: usize, len: usize, output: &mut [u8], at: usize
     requires { (start + len ≤ length bytes.now) × (at + len ≤ length output.old) }
     ensures { output.new ≡ wrote (take len (drop start bytes.now)) at output.old }
 {
-    let end = start + len;
-    append_output(&bytes[start..end], &mut output[at..]);
+    append_output(&bytes[start..start + len], &mut output[at..]);
 }
 
 // A newline and its spaces, from the position on.
@@ -380,10 +383,7 @@ fn parent(depth: &[usize], level: usize) -> usize
     requires { (level ≤ length depth.now) × Under (2 ^ 32) (pile depth.now level) }
     ensures { result ≡ parent_word (innermost (pile depth.now level)) }
 {
-    if level == 0 {
-        return 0;
-    }
-    depth[level - 1] + 1
+    if level == 0 { 0 } else { depth[level - 1] + 1 }
 }
 
 // A span opens: it is told, and its number is the last of the open ones.
@@ -391,12 +391,9 @@ fn push_open_span(annotation: AnnotationId, w: Walk, depth: &mut [usize]) -> Mar
     requires { (w.depth < length depth.old) × Under (2 ^ 32) (pile depth.old w.depth) }
     ensures { (depth.new ≡ depth_after (Act.Open annotation) w depth.old) × (result ≡ mark_of (Act.Open annotation) w depth.old) × (annotation.0 < 2 ^ 32) }
 {
-    let level = w.depth;
-    let n = w.spans;
-    let at = w.at;
-    let up = parent(depth, level);
-    depth[level] = n;
-    Mark::Open(n, annotation, at as u64, up as u64)
+    let up = parent(depth, w.depth);
+    depth[w.depth] = w.spans;
+    Mark::Open(w.spans, annotation, w.at as u64, up as u64)
 }
 
 // The last open span closes: it is told.
@@ -404,10 +401,7 @@ fn pop_open_span(w: Walk, depth: &[usize]) -> Mark
     requires { (0 < w.depth) × (w.depth ≤ length depth.now) }
     ensures { result ≡ mark_of Act.Close w depth.now }
 {
-    let level = w.depth;
-    let at = w.at;
-    let n = depth[level - 1];
-    Mark::Close(n, at as u64)
+    Mark::Close(depth[w.depth - 1], w.at as u64)
 }
 
 // What an item puts is put; what it marks is told.
@@ -415,25 +409,18 @@ fn perform(act: Act, w: Walk, bytes: &[u8], depth: &mut [usize], output: &mut [u
     requires { Allowed act w bytes.now depth.old output.old }
     ensures { Performed act w bytes.now depth.old depth.new output.old output.new result }
 {
-    let at = w.at;
     match act {
-        Act::Pass => {
-            return Mark::Nothing;
-        }
+        Act::Pass => Mark::Nothing,
         Act::Put(start, len) => {
-            put_text(bytes, start, len, output, at);
-            return Mark::Nothing;
+            put_text(bytes, start, len, output, w.at);
+            Mark::Nothing
         }
         Act::Line(indent) => {
-            put_newline(indent, output, at);
-            return Mark::Nothing;
+            put_newline(indent, output, w.at);
+            Mark::Nothing
         }
-        Act::Open(annotation) => {
-            return push_open_span(annotation, w, depth);
-        }
-        Act::Close => {
-            return pop_open_span(w, depth);
-        }
+        Act::Open(annotation) => push_open_span(annotation, w, depth),
+        Act::Close => pop_open_span(w, depth),
     }
 }
 
@@ -453,19 +440,14 @@ pub fn turn(
 {
     let v = visit_item(capacity, false, w, plans, texts, visit);
     match v {
-        Visited::Stopped(_, _, _) => {
-            return Step {
-                walk: w,
-                mark: Mark::Nothing,
-            };
-        }
-        Visited::Went(z, act) => {
-            let mark = perform(act, w, bytes, depth, output);
-            return Step {
-                walk: z,
-                mark: mark,
-            };
-        }
+        Err(_) => Step {
+            walk: w,
+            mark: Mark::Nothing,
+        },
+        Ok((z, act)) => Step {
+            walk: z,
+            mark: perform(act, w, bytes, depth, output),
+        },
     }
 }
 
@@ -504,8 +486,7 @@ fn mark_row(mark: Mark, spans: &mut [[u64; 4]])
     match mark {
         Mark::Nothing => {}
         Mark::Open(n, annotation, at, up) => {
-            let number = annotation.0;
-            spans[n] = [number as u64, at, at, up];
+            spans[n] = [annotation.0 as u64, at, at, up];
         }
         Mark::Close(n, at) => {
             spans[n][2] = at;
@@ -528,12 +509,11 @@ pub fn write(
     requires { Lent capacity visit.old depth.old output.old spans.old × Planned plans.now (length plans.now) texts.now root.0 × InBytes texts.now bytes.now × Passes capacity (plan plans.now texts.now bytes.now root.0) }
     ensures { Written (plan plans.now texts.now bytes.now root.0) output.old output.new spans.old spans.new }
 {
-    let number = root.0;
-    let mut w = begin_walk(visit, PlanId(number));
+    let mut w = begin_walk(visit, root);
+    // A while loop, as in `measure`.
     while 0 < w.top {
         let s = turn(capacity, w, plans, texts, bytes, visit, depth, output);
-        let mark = s.mark;
-        mark_row(mark, spans);
+        mark_row(s.mark, spans);
         w = s.walk;
     }
 }

@@ -1,13 +1,9 @@
 -- A sound index stays sound with one entry more, in a slot that was not live.
 use Rattle.std.proofs.Common.{◌≡◌, ℕ, zero, suc, ◌+◌, ◌<◌, ◌≤◌, List, [], ◌∷◌, ◌++◌, length, get_or, set, sym, refl, ap, ◌∙◌, subst, add-one, arith, length-set, get_or-set_other, get_or-set_same, below_more}
 use Rattle.memo.specs.Hash.{hash_of}
-use Rattle.memo.specs.Entries.{Entry, word, key_at, entry, listed}
+use Rattle.memo.specs.Entries.{Entry, word, key_at, entry, listed, row_of}
 use Rattle.memo.specs.Index.{place, Live, Path, Sound, Gap}
 use Rattle.memo.proofs.Search.{own}
-
--- the row of an entry at slot s
-abbrev pub row_of : Entry → ℕ → List ℕ
-row_of e s = e.key.node ∷ e.key.column ∷ e.key.indent ∷ e.range.start ∷ e.range.len ∷ s ∷ []
 
 module _ (es : List (List ℕ)) (n : ℕ) (row : List ℕ) where
   pub other : (k j : ℕ) → (k ≡ n → ⊥) → word (set es n row) k j ≡ word es k j

@@ -1,34 +1,34 @@
 -- An entry stored: at the end, or in the place of the one of its key.
 use Rattle.std.proofs.Common.{◌≡◌, ℕ, zero, suc, ◌+◌, ◌<◌, ◌≤◌, Bool, true, false, List, [], ◌∷◌, ◌++◌, length, get_or, set, sym, refl, ap, ◌∙◌, subst, ⊎_elim, arith, length-set}
-use Rattle.memo.specs.declared.MemoLookup.TheVariants.{Nothing}
 use Rattle.memo.specs.Hash.{hash_of}
-use Rattle.memo.specs.Entries.{pick, Entry, same, lookup, stored, word, key_at, entry, listed}
+use Rattle.std.specs.Prelude.{None}
+use Rattle.memo.specs.Entries.{pick, Entry, same, lookup, stored, word, key_at, entry, listed, row_of}
 use Rattle.memo.specs.Index.{place, Live, Path, Sound, Gap, Hit, Round, Entered, Refused}
 use Rattle.memo.proofs.Pigeon.{equal?}
 use Rattle.memo.proofs.Lookup.{pick_none, same_self, absent, missing}
 use Rattle.memo.proofs.Search.{never_round}
-use Rattle.memo.proofs.Grow.{row_of, other, other_entry, new, new_entry, old_listed, grown, more}
+use Rattle.memo.proofs.Grow.{other, other_entry, new, new_entry, old_listed, grown, more}
 use Rattle.memo.proofs.Answers.{nowhere}
 
 module _ (e : Entry) where
   -- a key that has no entry: exactly one entry more
-  pub store_new : (xs : List Entry) → lookup xs e.key ≡ Nothing → stored xs e ≡ xs ++ (e ∷ [])
+  pub store_new : (xs : List Entry) → lookup xs e.key ≡ None → stored xs e ≡ xs ++ (e ∷ [])
   store_new [] n = refl
   store_new (z ∷ xs) n =
       let p = pick_none (same z.key e.key) z.range (lookup xs e.key) n in
       rw p.0 (ap (λ w. z ∷ w) (store_new xs p.1))
 
-  store_last : (xs : List Entry) (z : Entry) → lookup xs e.key ≡ Nothing → same z.key e.key ≡ true → stored (xs ++ (z ∷ [])) e ≡ xs ++ (e ∷ [])
+  store_last : (xs : List Entry) (z : Entry) → lookup xs e.key ≡ None → same z.key e.key ≡ true → stored (xs ++ (z ∷ [])) e ≡ xs ++ (e ∷ [])
   store_last [] z n h = rw h
   store_last (w ∷ xs) z n h =
       let p = pick_none (same w.key e.key) w.range (lookup xs e.key) n in
       rw p.0 (ap (λ v. w ∷ v) (store_last xs z p.1 h))
 
-  store_before : (xs : List Entry) (z : Entry) → (lookup xs e.key ≡ Nothing → ⊥) → stored (xs ++ (z ∷ [])) e ≡ stored xs e ++ (z ∷ [])
+  store_before : (xs : List Entry) (z : Entry) → (lookup xs e.key ≡ None → ⊥) → stored (xs ++ (z ∷ [])) e ≡ stored xs e ++ (z ∷ [])
   store_before [] z h = absurd (h refl)
   store_before (w ∷ xs) z h = go (same w.key e.key) refl (store_before xs z)
     where
-      go : (t : Bool) → same w.key e.key ≡ t → ((lookup xs e.key ≡ Nothing → ⊥) → stored (xs ++ (z ∷ [])) e ≡ stored xs e ++ (z ∷ []))
+      go : (t : Bool) → same w.key e.key ≡ t → ((lookup xs e.key ≡ None → ⊥) → stored (xs ++ (z ∷ [])) e ≡ stored xs e ++ (z ∷ []))
           → pick t (e ∷ (xs ++ (z ∷ []))) (w ∷ stored (xs ++ (z ∷ [])) e) ≡ pick t (e ∷ xs) (w ∷ stored xs e) ++ (z ∷ [])
       go true p ih = refl
       go false p ih = ap (λ v. w ∷ v) (ih (λ q. h (rw p q)))

@@ -1,19 +1,23 @@
 -- What a search shows of a sound index.
-use Rattle.std.proofs.Common.{◌≡◌, ℕ, ◌+◌, ◌-◌, ◌%◌, ◌<◌, Bool, true, false, List, length, get_or, sym, ap, ◌∙◌, subst, ⊎_elim, add-zero, add_assoc, mod-lt, arith, pow_pos}
-use native.Mathlib.Nat.{mod-mod, mod-add-mod}
+use Rattle.std.proofs.Common.{◌≡◌, ℕ, ◌+◌, ◌-◌, ◌%◌, ◌<◌, Bool, false, List, length, get_or, sym, ap, ◌∙◌, subst, ⊎_elim, mod-lt, arith, pow_pos, eqb, eqb-true}
+use borrow.Author.Tests.{eqb-false}
 use lib.Bits.{bit_and, and_mask}
 use Rattle.memo.specs.declared.MemoKey.{MemoKey}
 use Rattle.memo.specs.Hash.{hash_of}
 use Rattle.memo.specs.Entries.{word, key_at}
-use Rattle.memo.specs.Index.{Power, place, Live, Path, Sound, Named, Told, Passed}
+use Rattle.memo.specs.Index.{Power, place, Live, Path, Sound, Names, Told, Passed}
 use Rattle.memo.proofs.Pigeon.{less?, pigeon, place_single}
 use Rattle.memo.proofs.Lookup.{no_both, key_of}
 
 pub told_no : {es : List (List ℕ)} {k : ℕ} {key : MemoKey} → (key_at es k ≡ key → ⊥) → Told es k key false
 told_no h = record { yes = λ e. absurd (no_both (sym e)); no = λ e. h }
 
-pub told_yes : (es : List (List ℕ)) (k : ℕ) (key : MemoKey) → word es k 0 ≡ key.node → word es k 1 ≡ key.column → word es k 2 ≡ key.indent → Told es k key true
-told_yes es k key p q r = record { yes = λ e. key_of (key_at es k) key p q r; no = λ e w. no_both e }
+-- where node and column are the same, the indent decides
+pub told_by_indent : (es : List (List ℕ)) (k : ℕ) (key : MemoKey) → word es k 0 ≡ key.node → word es k 1 ≡ key.column → Told es k key (eqb (word es k 2) key.indent)
+told_by_indent es k key p q = record {
+  yes = λ e. key_of (key_at es k) key p q (eqb-true _ _ e);
+  no = λ e w. eqb-false _ _ e (ap (λ (z : MemoKey). z.indent) w);
+}
 
 pub positive : {m : ℕ} → Power m → 0 < m
 positive p = rw p.is (pow_pos p.exponent)
@@ -22,22 +26,18 @@ positive p = rw p.is (pow_pos p.exponent)
 masked : (h m : ℕ) → Power m → bit_and h (m - 1) ≡ h % m
 masked h m p = subst (λ z. bit_and h (z - 1) ≡ h % z) (sym p.is) (and_mask h p.exponent)
 
-pub start : (r h m : ℕ) → Power m → r ≡ h → bit_and r (m - 1) ≡ place h 0 m
+pub masked_place : (r h t m : ℕ) → Power m → r ≡ h → bit_and (bit_and r (m - 1) + t) (m - 1) ≡ place h t m
 unfolding place
-start r h m p e = rw (e, masked h m p, add-zero (h % m), mod-mod h m)
+masked_place r h t m p e = rw (e, masked h m p, masked (h % m + t) m p)
 
-pub start_low : (r m : ℕ) → Power m → bit_and r (m - 1) < m
-start_low r m p = rw (masked r m p) (mod-lt r (positive p))
+pub masked_low : (r m : ℕ) → Power m → bit_and r (m - 1) < m
+masked_low r m p = rw (masked r m p) (mod-lt r (positive p))
 
-pub next_place : (h t m : ℕ) → (place h t m + 1) % m ≡ place h (t + 1) m
-unfolding place
-next_place h t m = mod-add-mod (h % m + t) m 1 ∙ ap (λ z. z % m) (add_assoc (h % m) t 1)
-
-pub passed_by : {ss : List ℕ} {es : List (List ℕ)} {n s r : ℕ} {key : MemoKey} {t : Bool}
-    → Named ss es n s r → (r ≡ n → ⊥) → Told es r key t → t ≡ false → Passed ss es n key s
-passed_by {es = es} {key = key} w ne told e = record {
-  live = w.live (omega (arith, w.most, ne));
-  other = λ q. told.no e (subst (λ z. key_at es z ≡ key) (w.same (omega (arith, w.most, ne))) q);
+pub passed_by : {ss : List ℕ} {es : List (List ℕ)} {n s k : ℕ} {key : MemoKey} {t : Bool}
+    → Names ss es n s k → Told es k key t → t ≡ false → Passed ss es n key s
+passed_by {es = es} {key = key} w told e = record {
+  live = w.live;
+  other = λ q. told.no e (subst (λ z. key_at es z ≡ key) w.same q);
 }
 
 module _ (ss : List ℕ) (es : List (List ℕ)) (n : ℕ) (T : Sound ss es n) where

@@ -1,10 +1,9 @@
 -- The index of the entries, in slots that may hold anything: `Sound` says that the first n entries are found in it, and nothing of what else the memory holds.
-use Rattle.std.specs.Prelude.{◌≡◌, ℕ, ◌+◌, ◌%◌, ◌^◌, ◌<◌, ◌≤◌, Bool, true, false, List, length, ◌≢◌, slice_index, slice_index_or}
+use Rattle.std.specs.Prelude.{◌≡◌, ℕ, ◌+◌, ◌%◌, ◌^◌, ◌<◌, ◌≤◌, Bool, true, false, List, length, ◌≢◌, slice_index, slice_index_or, Option, Some, None, Result, Ok, Err}
 use Rattle.memo.specs.Hash.{hash_of}
 use Rattle.memo.specs.Entries.{Entry, stored, word, key_at, listed}
 use Rattle.memo.specs.declared.MemoKey.{MemoKey}
-use Rattle.memo.specs.declared.MemoInsertion.{MemoInsertion}
-use Rattle.memo.specs.declared.MemoInsertion.TheVariants.{Inserted, Full}
+use Rattle.memo.specs.declared.Full.{Full}
 use Rattle.memo.specs.declared.Spot.{Spot}
 use Rattle.memo.specs.declared.Spot.TheVariants.{Free, Taken, Nowhere}
 
@@ -53,21 +52,24 @@ pub record Refused (ss : List ℕ) (es : List (List ℕ)) (n size : ℕ) (ss' : 
   pub slots : ss' ≡ ss
   pub entries : es' ≡ es
 
-abbrev pub InsertionIs : List ℕ → List (List ℕ) → ℕ → ℕ → List ℕ → List (List ℕ) → Entry → MemoInsertion → Type 0
-InsertionIs ss es n size ss' es' e (Inserted m) = Entered ss es n size ss' es' e m
-InsertionIs ss es n size ss' es' e (Full needed) = Refused ss es n size ss' es' needed
+abbrev pub InsertionIs : List ℕ → List (List ℕ) → ℕ → ℕ → List ℕ → List (List ℕ) → Entry → Result ℕ Full → Type 0
+InsertionIs ss es n size ss' es' e (Ok m) = Entered ss es n size ss' es' e m
+InsertionIs ss es n size ss' es' e (Err d) = Refused ss es n size ss' es' d.needed
 
-pub record Insertion (ss : List ℕ) (es : List (List ℕ)) (n size : ℕ) (ss' : List ℕ) (es' : List (List ℕ)) (e : Entry) (r : MemoInsertion) : Type 0 where
+pub record Insertion (ss : List ℕ) (es : List (List ℕ)) (n size : ℕ) (ss' : List ℕ) (es' : List (List ℕ)) (e : Entry) (r : Result ℕ Full) : Type 0 where
   pub is : InsertionIs ss es n size ss' es' e r
 
 -- ---- what the search's parts find
 
--- r is the entry that slot s names, and n if the slot is not live
-pub record Named (ss : List ℕ) (es : List (List ℕ)) (n s r : ℕ) : Type 0 where
-  pub most : r ≤ n
-  pub live : r < n → Live ss es n s
-  pub same : r < n → slice_index ss s ≡ r
-  pub dead : r ≡ n → Live ss es n s → ⊥
+-- slot s is live and names entry k
+pub record Names (ss : List ℕ) (es : List (List ℕ)) (n s k : ℕ) : Type 0 where
+  pub live : Live ss es n s
+  pub same : slice_index ss s ≡ k
+
+-- r is the entry that slot s names, and none if the slot is not live
+abbrev pub Named : List ℕ → List (List ℕ) → ℕ → ℕ → Option ℕ → Type 0
+Named ss es n s (Some k) = Names ss es n s k
+Named ss es n s None = Live ss es n s → ⊥
 
 pub record Told (es : List (List ℕ)) (k : ℕ) (key : MemoKey) (r : Bool) : Type 0 where
   pub yes : r ≡ true → key_at es k ≡ key

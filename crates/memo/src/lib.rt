@@ -6,7 +6,7 @@
 ghost use Rattle.std.specs.Prelude.{◌≡◌, ◌+◌, ◌*◌, ◌%◌, ◌^◌, ◌<◌, ◌≤◌, length};
 ghost use Rattle.memo.specs.Hash.{mix_of, hash_of};
 ghost use Rattle.memo.specs.Sizes.{SlotsFor};
-ghost use Rattle.memo.specs.Entries.{lookup, listed};
+ghost use Rattle.memo.specs.Entries.{lookup, listed, row_of};
 ghost use Rattle.memo.specs.Index.{Power, Sound, Named, Told, Spotted, Insertion};
 
 #[derive(Clone, Copy)]
@@ -23,17 +23,10 @@ pub struct CandidateRange {
     pub len: u64,
 }
 
-#[derive(Clone, Copy)]
-pub enum MemoLookup {
-    Found(CandidateRange),
-    Nothing,
-}
-
-// So many entries are there now; or the size is reached, and one of `needed` would do.
-#[derive(Clone, Copy)]
-pub enum MemoInsertion {
-    Inserted(usize),
-    Full { needed: u64 },
+// The size is reached, and one of `needed` would do.
+#[derive(Clone, Copy, Debug, PartialEq, Eq)]
+pub struct Full {
+    pub needed: u64,
 }
 
 // Where a search for a key ends: at a slot that is not live, at the key's entry, or nowhere.
@@ -44,25 +37,17 @@ pub enum Spot {
     Nowhere,
 }
 
-// a * b modulo 2^64, of halves whose products fit.
+// a * b modulo 2^64.
 pub fn wrapping_mul(a: u64, b: u64) -> u64
     ensures { result ≡ a * b % 2 ^ 64 }
 {
-    let al = a % 4294967296;
-    let ah = a / 4294967296;
-    let bl = b % 4294967296;
-    let bh = b / 4294967296;
-    let low = al * bl;
-    let x = ah * bl % 4294967296;
-    let y = al * bh % 4294967296;
-    let middle = (x + y) % 4294967296;
-    std::num::wrapping_add_u64(low, middle * 4294967296)
+    a.wrapping_mul(b)
 }
 
 pub fn mix(value: u64) -> u64
     ensures { result ≡ mix_of value }
 {
-    let a = std::num::wrapping_add_u64(value, 0x9e3779b97f4a7c15);
+    let a = value.wrapping_add(0x9e3779b97f4a7c15);
     let b = wrapping_mul(a ^ (a >> 30), 0xbf58476d1ce4e5b9);
     let c = wrapping_mul(b ^ (b >> 27), 0x94d049bb133111eb);
     c ^ (c >> 31)
@@ -83,25 +68,24 @@ pub fn memo_slots_for(entries: u32) -> usize
         return 0;
     }
     let mut slots: usize = 8;
+    // A while loop: the slots double, so there is no range to go over.
     while slots * 7 / 10 < wanted {
-        slots = slots * 2;
+        slots *= 2;
     }
     slots
 }
 
-// The entry that slot `s` names, or `count` where the slot is not live.
-fn named(index: &[u64], entries: &[[u64; 6]], count: usize, s: usize) -> usize
+// The entry that slot `s` names, if the slot is live.
+fn named(index: &[u64], entries: &[[u64; 6]], count: usize, s: usize) -> Option<usize>
     requires { (s < length index.now) × (count ≤ length entries.now) }
     ensures { Named index.now entries.now count s result }
 {
     let k = index[s] as usize;
-    if count <= k {
-        return count;
+    if k < count && entries[k][5] == s as u64 {
+        Some(k)
+    } else {
+        None
     }
-    if entries[k][5] == s as u64 {
-        return k;
-    }
-    count
 }
 
 // Whether entry `k` has the key.
@@ -109,75 +93,67 @@ fn same_key(entries: &[[u64; 6]], k: usize, key: MemoKey) -> bool
     requires { k < length entries.now }
     ensures { Told entries.now k key result }
 {
-    if entries[k][0] != key.node as u64 {
-        return false;
-    }
-    if entries[k][1] != key.column as u64 {
-        return false;
-    }
-    if entries[k][2] != key.indent as u64 {
-        return false;
-    }
-    true
+    entries[k][0] == key.node as u64
+        && entries[k][1] == key.column as u64
+        && entries[k][2] == key.indent as u64
 }
 
-// The slot after `s` among `n`, with no division.
-fn after(s: usize, n: usize) -> usize
-    requires { s < n }
-    ensures { result ≡ (s + 1) % n }
-{
-    if s + 1 < n {
-        return s + 1;
-    }
-    0
-}
-
-// The search, from the key's own slot on, which the mask of a power of two gives. It ends after as many turns as there are slots.
+// The search, over all slots from the key's own on, which the mask of a power of two gives.
 fn find(index: &[u64], entries: &[[u64; 6]], count: usize, key: MemoKey) -> Spot
     requires { (count ≤ length entries.now) × Power (length index.now) }
     ensures { Spotted index.now entries.now count key result }
 {
     let n = index.len();
-    let hash = memo_hash(key) as usize;
-    let mut s = hash & (n - 1);
-    let mut t: usize = 0;
-    while t < n {
-        let k = named(index, entries, count, s);
-        if k == count {
+    let own = memo_hash(key) as usize & (n - 1);
+    for t in 0..n {
+        let s = (own + t) & (n - 1);
+        let Some(k) = named(index, entries, count, s) else {
             return Spot::Free(s);
-        }
+        };
         if same_key(entries, k, key) {
             return Spot::Taken(k);
         }
-        s = after(s, n);
-        t += 1;
     }
     Spot::Nowhere
 }
 
+// The row of an entry.
+fn row(key: MemoKey, range: CandidateRange, slot: u64) -> [u64; 6]
+    ensures { result ≡ row_of (record { key = key; range = range }) slot }
+{
+    [
+        key.node as u64,
+        key.column as u64,
+        key.indent as u64,
+        range.start,
+        range.len,
+        slot,
+    ]
+}
+
 // The range that was entered for the key. While there is no entry, and so at size 0, no memory is touched.
-pub fn memo_get(index: &[u64], entries: &[[u64; 6]], count: usize, key: MemoKey) -> MemoLookup
+pub fn memo_get(
+    index: &[u64],
+    entries: &[[u64; 6]],
+    count: usize,
+    key: MemoKey,
+) -> Option<CandidateRange>
     requires { Sound index.now entries.now count }
     ensures { result ≡ lookup (listed entries.now count) key }
 {
     if count == 0 {
-        return MemoLookup::Nothing;
+        return None;
     }
     match find(index, entries, count, key) {
-        Spot::Taken(k) => {
-            let start = entries[k][3];
-            let len = entries[k][4];
-            MemoLookup::Found(CandidateRange {
-                start: start,
-                len: len,
-            })
-        }
-        Spot::Free(_) => MemoLookup::Nothing,
-        Spot::Nowhere => MemoLookup::Nothing,
+        Spot::Taken(k) => Some(CandidateRange {
+            start: entries[k][3],
+            len: entries[k][4],
+        }),
+        Spot::Free(_) | Spot::Nowhere => None,
     }
 }
 
-// The range under the key, in the place of the key's entry if there is one. At most `size` entries.
+// The range under the key, in the place of the key's entry if there is one: how many entries there are now, at most `size`.
 pub fn memo_insert(
     index: &mut [u64],
     entries: &mut [[u64; 6]],
@@ -185,39 +161,25 @@ pub fn memo_insert(
     size: usize,
     key: MemoKey,
     range: CandidateRange,
-) -> MemoInsertion
+) -> Result<usize, Full>
     requires { (Sound index.old entries.old count) × ((size ≤ length entries.old) × (size ≤ length index.old)) }
     ensures { Insertion index.old entries.old count size index.new entries.new (record { key = key; range = range }) result }
 {
     if size <= count {
-        let needed = (count + 1) as u64;
-        return MemoInsertion::Full { needed: needed };
+        return Err(Full {
+            needed: (count + 1) as u64,
+        });
     }
     match find(index, entries, count, key) {
         Spot::Free(s) => {
-            entries[count] = [
-                key.node as u64,
-                key.column as u64,
-                key.indent as u64,
-                range.start,
-                range.len,
-                s as u64,
-            ];
+            entries[count] = row(key, range, s as u64);
             index[s] = count as u64;
-            MemoInsertion::Inserted(count + 1)
+            Ok(count + 1)
         }
         Spot::Taken(k) => {
-            let s = entries[k][5];
-            entries[k] = [
-                key.node as u64,
-                key.column as u64,
-                key.indent as u64,
-                range.start,
-                range.len,
-                s,
-            ];
-            MemoInsertion::Inserted(count)
+            entries[k] = row(key, range, entries[k][5]);
+            Ok(count)
         }
-        Spot::Nowhere => MemoInsertion::Inserted(count),
+        Spot::Nowhere => Ok(count),
     }
 }

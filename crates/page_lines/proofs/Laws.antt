@@ -1,38 +1,11 @@
 -- Laws of pieces put into a slice.
-use mathlib.Core.Path.{◌≡◌, refl, sym, ap, ◌∙◌}
-use mathlib.Core.List.{List, [], ◌∷◌, ◌++◌, append-nil, append_assoc}
-use Prim.Native.Nat.{ℕ, suc, ◌+◌, ◌≤◌, ◌<◌}
+use mathlib.Core.Path.{◌≡◌, sym, ap, ◌∙◌}
+use mathlib.Core.List.{List, ◌++◌, append_assoc}
+use Prim.Native.Nat.{ℕ, ◌+◌, ◌≤◌}
 use native.Mathlib.Omega.{arith}
-use native.Mathlib.Nat.{add-zero}
-use native.Mathlib.Numerals.{add-one}
-use lib.ListN.{length, take, get_or, set, length-set, length-append}
-use lib.Seq.{take-suc, take-suc-set, take_all, take_at, length-take-le}
+use lib.ListN.{length, take, length-append}
+use lib.Seq.{take_at, length-take-le}
 use Rattle.page_lines.specs.Put.{Put, Front}
-
--- the first i bytes of the text are put
-pub record Going (before text out : List ℕ) (at i : ℕ) : Type 0 where
-  pub within : i ≤ length text
-  pub same_length : length out ≡ length before
-  pub front : take (at + i) out ≡ take at before ++ take i text
-
-pub going_begin : (before text : List ℕ) (at : ℕ) → Going before text before at 0
-going_begin before text at = record { within = omega arith; same_length = refl; front = rw (add-zero at) (sym (append-nil (take at before))) }
-
-pub going_step : (before text out : List ℕ) (at i : ℕ) → at + length text ≤ length before → i < length text → Going before text out at i
-    → Going before text (set out (at + i) (get_or text i 0)) at (i + 1)
-going_step before text out at i h l g =
-    let m : at + i < length out = omega (arith, g.same_length) in
-    let e : at + (i + 1) ≡ suc (at + i) = omega arith in
-    record {
-      within = omega arith;
-      same_length = length-set out (at + i) (get_or text i 0) ∙ g.same_length;
-      front = rw (e, add-one i, take-suc-set out (at + i) (get_or text i 0) m, g.front, take-suc text i 0 l) (append_assoc (take at before) (take i text) (get_or text i 0 ∷ []));
-    }
-
-pub going_end : (before text out : List ℕ) (at i : ℕ) → length text ≤ i → Going before text out at i → Put before at text out (at + i)
-going_end before text out at i h g =
-    let e : i ≡ length text = omega (arith, g.within) in
-    record { next = ap (λ (z : ℕ). at + z) e; front = g.front ∙ ap (λ (t : List ℕ). take at before ++ t) (take_all i text (omega arith)) }
 
 -- a piece put at the front of the part from `at` on
 pub part_put : (out part piece rest past : List ℕ) (at n : ℕ) → at ≤ length out → part ≡ piece ++ rest → n ≡ length piece → Put out at piece (take at out ++ (part ++ past)) (at + n)

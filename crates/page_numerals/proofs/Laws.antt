@@ -1,11 +1,13 @@
--- Laws for the loops that write and count digits.
+-- Laws for the loop that writes digits, and of their number.
 use mathlib.Core.Path.{◌≡◌, refl, sym, ap, ap₂, ◌∙◌}
 use mathlib.Core.List.{List, [], ◌∷◌, ◌++◌, append_assoc, append-nil}
-use Prim.Native.Nat.{ℕ, zero, suc, ◌+◌, ◌-◌, ◌/◌, ◌%◌, ◌^◌, ◌≤◌, ◌<◌}
+use Prim.Native.Nat.{ℕ, zero, suc, ◌+◌, ◌-◌, ◌*◌, ◌/◌, ◌%◌, ◌^◌, ◌≤◌, ◌<◌}
 use native.Mathlib.Omega.{arith}
-use native.Mathlib.Nat.{pow-suc, sub-zero}
+use native.Mathlib.Nat.{pow-suc, one-le-pow, sub-zero}
 use lib.ListN.{length, take, drop, set, length-set, take-append-drop}
 use lib.Seq.{drop-cons, get_or-set_same, drop-set-lt}
+use Rattle.std.specs.Prelude.{Option, Some, None, MatchOption}
+use Rattle.std.specs.Option.{IfNone, IfSome}
 use borrow.Author.Tests.{le-ltb, lt-ltb}
 use Rattle.page_numerals.specs.Digits.{digit, digits, width}
 
@@ -49,31 +51,26 @@ left_end base n count before out m i z h =
     let e : digits base count n ≡ take count out = h.rest ∙ rw z (ap (λ (k : ℕ). take k out) (sub-zero count)) in
     sym (take-append-drop count out) ∙ ap₂ (λ (a b : List ℕ). a ++ b) (sym e) h.past
 
--- w digits are counted, and what is left, m, has at most k + 1
-pub record Counted (n m w : ℕ) : Type 0 where
-  pub k : ℕ
-  pub total : w + k ≡ 20
-  pub sum : width 19 n + 1 ≡ width k m + w
-  pub small : m < 10 ^ suc k
-
-pub count_begin : (n : ℕ) → n < 2 ^ 64 → Counted n n 1
-count_begin n h = record { k = 19; total = refl; sum = refl; small = omega arith }
-
-longer : (k m : ℕ) → 10 ≤ m → width (suc k) m ≡ width k (m / 10) + 1
-unfolding width
-longer k m h = rw (le-ltb _ _ h)
-
-pub count_step : (n m w : ℕ) → 10 ≤ m → Counted n m w → Counted n (m / 10) (w + 1)
-count_step n m w h c = go c.k c.total c.sum c.small
-  where
-    go : (k : ℕ) → w + k ≡ 20 → width 19 n + 1 ≡ width k m + w → m < 10 ^ suc k → Counted n (m / 10) (w + 1)
-    go zero t s l = absurd (omega arith)
-    go (suc j) t s l = record { k = j; total = omega arith; sum = s ∙ ap (λ (z : ℕ). z + w) (longer j m h) ∙ omega arith; small = omega (arith, pow-suc 10 (suc j)) }
-
 one_digit : (k m : ℕ) → m < 10 → width k m ≡ 1
 unfolding width
 one_digit zero m h = refl
 one_digit (suc k) m h = rw (lt-ltb _ _ h)
 
-pub count_end : (n m w : ℕ) → m < 10 → Counted n m w → w ≡ width 19 n
-count_end n m w h c = omega (arith, c.sum, one_digit c.k m h)
+longer : (k m : ℕ) → 10 ≤ m → width (suc k) m ≡ width k (m / 10) + 1
+unfolding width
+longer k m h = rw (le-ltb _ _ h)
+
+-- a number from 10 to the k on, and below ten times that, has k + 1 digits
+width_from : (j k n : ℕ) → k ≤ j → 10 ^ k ≤ n → n < 10 * 10 ^ k → width j n ≡ k + 1
+width_from j zero n l a b = one_digit j n (omega arith)
+width_from zero (suc k) n l a b = absurd (omega arith)
+width_from (suc j) (suc k) n l a b =
+    let p = pow-suc 10 k in
+    let q = one-le-pow k 10 (omega arith) in
+    longer j n (omega arith) ∙ ap (λ (z : ℕ). z + 1) (width_from j k (n / 10) (omega arith) (omega arith) (omega arith)) ∙ omega arith
+
+-- the width by the logarithm, which 0 has none of
+pub width_is : (o : Option ℕ) (n w : ℕ) → IfNone o (n ≡ 0) → IfSome o (λ k. 10 ^ k ≤ n) → IfSome o (λ k. n < 10 * 10 ^ k) → IfSome o (λ k. k < 20) → MatchOption o (w ≡ 1) (λ k. w ≡ k + 1)
+    → (w ≡ width 19 n) × (w ≤ 20)
+width_is None n w z a b l e = (e ∙ sym (one_digit 19 n (omega arith)), omega arith)
+width_is (Some k) n w z a b l e = (e ∙ sym (width_from 19 k n (omega arith) a b), omega arith)

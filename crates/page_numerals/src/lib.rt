@@ -5,14 +5,16 @@ ghost use Rattle.std.specs.Prelude.{◌≡◌, ◌++◌, ◌+◌, ◌*◌, ◌�
 ghost use Rattle.page_numerals.specs.Digits.{digit, digits, width, decimal, hexadecimal};
 
 // The byte of a digit.
+#[tactic(auto, unfolding(crate::specs::Digits::digit))]
 pub fn digit(d: u64) -> u8
     requires { d < 16 }
     ensures { result ≡ Rattle.page_numerals.specs.Digits.digit d }
 {
     if d < 10 {
-        return (48 + d) as u8;
+        (48 + d) as u8
+    } else {
+        (87 + d) as u8
     }
-    (87 + d) as u8
 }
 
 // The last `count` digits of n, at the front of the lent part.
@@ -20,12 +22,10 @@ pub fn put_digits(out: &mut [u8], base: u64, n: u64, count: usize)
     requires { (1 < base) × (base ≤ 16) × (count ≤ length out.old) }
     ensures { out.new ≡ digits base count n ++ drop count out.old }
 {
-    let mut i = count;
     let mut m = n;
-    while 0 < i {
-        i -= 1;
+    for i in (0..count).rev() {
         out[i] = digit(m % base);
-        m = m / base;
+        m /= base;
     }
 }
 
@@ -33,13 +33,7 @@ pub fn put_digits(out: &mut [u8], base: u64, n: u64, count: usize)
 pub fn width(n: u64) -> usize
     ensures { (result ≡ Rattle.page_numerals.specs.Digits.width 19 n) × (result ≤ 20) }
 {
-    let mut w: usize = 1;
-    let mut m = n;
-    while 10 <= m {
-        m = m / 10;
-        w += 1;
-    }
-    w
+    n.checked_ilog10().map_or(1, |d| d as usize + 1)
 }
 
 // n in decimal at the front of the lent part; the answer is the number of bytes.

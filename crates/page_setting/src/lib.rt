@@ -4,7 +4,7 @@
 ghost use Rattle.std.specs.Prelude.{◌≡◌};
 ghost use Rattle.page_setting.specs.Setting.{setting_at};
 
-use file_fields::Step;
+use file_fields::{START, Step, byte_at, field_at, formed};
 
 // Page width, newline cost, policy, rule, and the step after them.
 #[derive(Clone, Copy)]
@@ -19,20 +19,10 @@ pub struct Setting {
 pub fn setting_at(s: &[u8]) -> Setting
     ensures { result ≡ setting_at s.now }
 {
-    let map = file_fields::formed(
-        15,
-        file_fields::byte_at(
-            s,
-            Step {
-                value: 0,
-                at: 0,
-                fault: 0,
-            },
-        ),
-    );
+    let map = formed(15, byte_at(s, START));
     let m = map.value;
-    let width = file_fields::field_at(s, m / 1 % 2 == 1, map);
-    let newline_cost = file_fields::field_at(s, m / 2 % 2 == 1, width);
+    let width = field_at(s, m / 1 % 2 == 1, map);
+    let newline_cost = field_at(s, m / 2 % 2 == 1, width);
     Setting {
         width: width.value,
         newline_cost: newline_cost.value,

@@ -1,66 +1,32 @@
 -- From the answer to its text.
 use mathlib.Core.Path.{◌≡◌, refl, sym, ap, subst, ◌∙◌}
 use mathlib.Core.List.{List}
-use Prim.Native.Nat.{ℕ, ◌+◌, ◌*◌, ◌/◌, ◌-◌, ◌^◌, ◌≤◌, ◌<◌}
+use Prim.Native.Nat.{ℕ, ◌*◌, ◌/◌, ◌-◌, ◌^◌, ◌≤◌, ◌<◌}
 use native.Mathlib.Omega.{arith}
 use native.Mathlib.Nat.{pow-le-pow_right}
-use lib.ListN.{length, take, drop, length-map, length-drop}
-use lib.Seq.{length-take-le, take_all}
+use lib.ListN.{length, take, drop, length-drop}
+use lib.Seq.{take_all}
 use Rattle.page_setting.specs.declared.Setting.{Setting}
 use Rattle.page_setting.specs.Setting.{setting_at}
-use Rattle.page_lines.specs.Lines.{refused_line, page_text}
+use Rattle.page_lines.specs.Lines.{refused_line}
 use Rattle.page_lines.specs.Put.{Front}
-use Rattle.cost.specs.declared.ConsumerCost.{ConsumerCost}
-use Rattle.stats.specs.declared.SolveStats.{SolveStats}
 use Rattle.machine.specs.Events.{Bounds}
 use Rattle.machine.specs.Answer.{Answer}
 use Rattle.answer.specs.Answer.{Ordered, lent_as, Answers, out_of_order, wrong_file, laid_out}
 use Rattle.solve_workspace.specs.declared.RenderOptions.{RenderOptions}
 use Rattle.solve_workspace.specs.declared.Bounds.{Bounds as Sizes}
-use Rattle.solve_workspace.specs.declared.Needs.{Needs}
 use Rattle.solve_workspace.specs.Meets.{limits}
 use Rattle.memo.specs.Sizes.{SlotsFor}
 use Rattle.materialize.specs.Rows.{Row}
-use Rattle.render.specs.declared.page.Rendered.{Rendered}
-use Rattle.render.specs.declared.page.Rendered.TheVariants.{Page, Refused}
 use Rattle.render.specs.declared.order.Lengths.{Lengths}
 use Rattle.render.specs.Order.{TablesLent, SolverLent, PageLent, InOrder}
-use Rattle.render.specs.Rendered.{span_of, meant, page_length}
+use Rattle.render.specs.Rendered.{Rendered, meant}
 use Rattle.render.specs.Call.{settings, Rendering}
-use Rattle.page_text.specs.Printed.{page_bounds, settings_of, settings_in, setting_fault, file_in, text_of, Printed, too_long, wrong_setting, answered, Right, Prints}
+use Rattle.page_text.specs.Printed.{page_bounds, settings_of, settings_in, setting_fault, file_in, Printed, too_long, wrong_setting, answered, Right, Prints}
 use Rattle.page_text.specs.Right.{setting_inside, right_answer, right_fault, right_long}
-use Rattle.page_text.specs.Shown.{Sized, RenderedSized, Fitting, Told, Shown}
-
--- ---- an answer's text
-
-pub told_refusal : {r : Rendered} {output out : List ℕ} {k : ℕ} (n needed : ℕ) (c : SolveStats) → r ≡ Refused n needed c → Front (refused_line n) out k → Told r output out k
-told_refusal {r} {output} {out} {k} n needed c e f = subst (λ (x : Rendered). Told x output out k) (sym e) (record { text_is = λ rows h. f })
-
-pub told_page :
-    {r : Rendered} {output out : List ℕ} {k : ℕ} (c : ConsumerCost) (n m : ℕ) (s : SolveStats) (q : Needs) → r ≡ Page c n m s q
-    → Front (page_text s.work_items (c.overflow_high * 2 ^ 64 + c.overflow_low) c.burden m (take n output)) out k → Told r output out k
-told_page {r} {output} {out} {k} c n m s q e f = subst (λ (x : Rendered). Told x output out k) (sym e) (record { text_is = with_rows })
-  where
-    with_rows : (rows : List Row) → m ≤ length rows → Front (text_of (meant (Page c n m s q) output rows)) out k
-    with_rows rows h =
-        subst (λ (i : ℕ). Front (page_text s.work_items (c.overflow_high * 2 ^ 64 + c.overflow_low) c.burden i (take n output)) out k)
-        (sym (length-map (take m rows) span_of ∙ length-take-le m rows h)) f
-
--- the page of an answer that fits
-pub fitting_page : {r : Rendered} {output text : List ℕ} (c : ConsumerCost) (n m : ℕ) (s : SolveStats) (q : Needs) → r ≡ Page c n m s q → Fitting r output text → n ≤ length output
-fitting_page {r} {output} c n m s q e f = subst (λ (x : Rendered). page_length x ≤ length output) e f.page_there
-
-pub fitting_room : {r : Rendered} {output text : List ℕ} (c : ConsumerCost) (n m : ℕ) (s : SolveStats) (q : Needs) → r ≡ Page c n m s q → Fitting r output text
-    → 102 + length (take n output) ≤ length text
-fitting_room {r} {output} c n m s q e f =
-    let h : n ≤ length output = fitting_page c n m s q e f in
-    omega (arith, f.room, length-take-le n output h)
+use Rattle.page_text.specs.Shown.{Sized, Told, Shown}
 
 -- ---- memory of the program's sizes
-
-pub rendered_sized : {file : List ℕ} {o : RenderOptions} {b : Sizes} {l : Lengths} {output₀ output : List ℕ} {rows₀ rows : List Row} {r : Rendered}
-    → Rendering file o b l output₀ output rows₀ rows r → Sized (length output₀) (length rows₀) l → RenderedSized file o b output₀ output rows₀ rows r
-rendered_sized {l = l} g z = record { lengths = l; sized = z; rendering = g }
 
 record Lent (l : Lengths) (b : Sizes) : Type 0 where
   tables : TablesLent l.nodes l.edges l.choices l.texts l.bytes

@@ -8,8 +8,7 @@ use Rattle.materialize.specs.Rows.{Row}
 use Rattle.solve_workspace.specs.declared.RenderOptions.{RenderOptions}
 use Rattle.solve_workspace.specs.declared.Bounds.{Bounds}
 use Rattle.render.specs.declared.order.Lengths.{Lengths}
-use Rattle.render.specs.declared.page.Rendered.{Rendered}
-use Rattle.render.specs.Rendered.{meant, page_length, span_count}
+use Rattle.render.specs.Rendered.{Rendered, meant, page_length, span_count}
 use Rattle.render.specs.Call.{Rendering}
 use Rattle.page_text.specs.Printed.{page_bounds, text_of}
 

@@ -19,26 +19,16 @@ fn print_answer(r: Rendered, output: &[u8], text: &mut [u8]) -> usize
     ensures { Told r output.now text.new result }
 {
     match r {
-        Rendered::Refused {
-            number,
-            needed: _,
-            stats: _,
-        } => refused_line(text, number),
-        Rendered::Page {
-            cost,
-            length,
-            spans,
-            stats,
-            needs: _,
-        } => page_text(
+        Ok(page) => page_text(
             text,
-            stats.work_items,
-            cost.overflow_high,
-            cost.overflow_low,
-            cost.burden,
-            spans as u64,
-            &output[..length],
+            page.stats.work_items,
+            page.cost.overflow_high,
+            page.cost.overflow_low,
+            page.cost.burden,
+            page.spans as u64,
+            &output[..page.length],
         ),
+        Err(refusal) => refused_line(text, refusal.number),
     }
 }
 
@@ -140,6 +130,5 @@ pub fn print_page(input: &[u8], text: &mut [u8; 32870]) -> usize
         policy: setting.policy,
         rule: setting.rule,
     };
-    let at = next.at;
-    print_file(&input[at..], options, text)
+    print_file(&input[next.at..], options, text)
 }

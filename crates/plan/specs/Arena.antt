@@ -1,12 +1,10 @@
 -- The arena of plans as a list of records, and what committing a plan does to it.
-use Rattle.std.specs.Prelude.{◌≡◌, cond, List, [], ◌∷◌, ◌++◌, ℕ, zero, suc, ◌+◌, length, leb}
+use Rattle.std.specs.Prelude.{◌≡◌, cond, List, [], ◌∷◌, ◌++◌, ℕ, zero, suc, ◌+◌, length, leb, Result, Ok, Err}
 use Rattle.plan.specs.declared.PlanId.{PlanId}
 use Rattle.plan.specs.declared.PlanNode.{PlanNode}
-use Rattle.plan.specs.declared.PlanNode.TheVariants.{Empty, Text, Newline, Concat, Annotate, Penalty}
 use Rattle.plan.specs.declared.PendingPlan.{PendingPlan}
-use Rattle.plan.specs.declared.PendingPlan.TheVariants.{Existing, Empty as NewEmpty, Text as NewText, Newline as NewNewline, Concat as NewConcat, Annotate as NewAnnotate, Penalty as NewPenalty}
-use Rattle.plan.specs.declared.PlanRoom.{PlanRoom}
-use Rattle.plan.specs.declared.PlanRoom.TheVariants.{Enough, Full}
+use Rattle.plan.specs.declared.PendingPlan.TheVariants.{Existing, New}
+use Rattle.plan.specs.declared.Full.{Full}
 use Rattle.plan.specs.declared.Committed.{Committed}
 use Rattle.plan.specs.Records.{node_at}
 
@@ -22,12 +20,7 @@ pub data Pending : Type 0 where
 
 abbrev pub view : PendingPlan → Pending
 view (Existing p) = old p
-view NewEmpty = new Empty
-view (NewText t) = new (Text t)
-view (NewNewline i) = new (Newline i)
-view (NewConcat l r) = new (Concat l r)
-view (NewAnnotate a c) = new (Annotate a c)
-view (NewPenalty n c) = new (Penalty n c)
+view (New x) = new x
 
 -- what it adds to the arena
 abbrev pub additions : Pending → List PlanNode
@@ -45,5 +38,5 @@ pub record Committing (rows : List (List ℕ)) (n : ℕ) (p : Pending) (rows' : 
   pub grown : arena rows' r.count ≡ arena rows n ++ additions p
 
 -- refusal 17: the size is less than required
-abbrev pub room_for : ℕ → ℕ → PlanRoom
-room_for required size = cond (leb required size) Enough (Full required)
+abbrev pub room_for : ℕ → ℕ → Result Unit Full
+room_for required size = cond (leb required size) (Ok tt) (Err (record { needed = required }))

@@ -1,5 +1,5 @@
 -- What callers go by: the arena read by number, layouts as the arena grows, the words of a pending plan.
-use Rattle.std.specs.Prelude.{◌≡◌, Bool, true, false, cond, eqb, leb}
+use Rattle.std.specs.Prelude.{◌≡◌, Bool, true, false, cond, eqb, leb, Result, Ok, Err}
 use Rattle.std.proofs.Math.Path.{refl, sym, ap, subst}
 use Rattle.std.proofs.Common.{◌∙◌, ap₂, add-one, add-zero, eqb-true, leb-true, leb-false}
 use mathlib.Core.List.{List, [], ◌∷◌, ◌++◌, append-nil}
@@ -12,10 +12,10 @@ use Rattle.layout.specs.Layout.{Plan, blank, join, mark, fee}
 use Rattle.plan.specs.declared.PlanNode.{PlanNode}
 use Rattle.plan.specs.declared.PlanNode.TheVariants.{Empty, Text, Newline, Concat, Annotate, Penalty}
 use Rattle.plan.specs.declared.PendingPlan.{PendingPlan}
-use Rattle.plan.specs.declared.PendingPlan.TheVariants.{Existing, Empty as NewEmpty, Text as NewText, Newline as NewNewline, Concat as NewConcat, Annotate as NewAnnotate, Penalty as NewPenalty}
+use Rattle.plan.specs.declared.PendingPlan.TheVariants.{Existing, New}
 use Rattle.plan.specs.declared.PlanId.{PlanId}
 use Rattle.plan.specs.declared.Committed.{Committed}
-use Rattle.plan.specs.declared.PlanRoom.TheVariants.{Enough, Full}
+use Rattle.plan.specs.declared.Full.{Full}
 use Rattle.plan.specs.Records.{node_at, record_of, pending_of}
 use Rattle.plan.specs.Arena.{arena, Pending, old, new, additions, numbered, Committing, room_for}
 use Rattle.plan.specs.Layouts.{layout_of, read_layouts_after, layouts, layout_at, pending_layout, Fine, PendingFine, Ranked}
@@ -210,25 +210,25 @@ module _ (t : ℕ) (rows : List (List ℕ)) (n : ℕ) (ok : Ranked t (arena rows
 
 pub pending_back : (p : PendingPlan) → pending_of (record_of p).kind (record_of p).first (record_of p).second ≡ p
 pending_back (Existing p) = refl
-pending_back NewEmpty = refl
-pending_back (NewText t) = refl
-pending_back (NewNewline i) = refl
-pending_back (NewConcat l r) = refl
-pending_back (NewAnnotate a c) = refl
-pending_back (NewPenalty n c) = refl
+pending_back (New Empty) = refl
+pending_back (New (Text t)) = refl
+pending_back (New (Newline i)) = refl
+pending_back (New (Concat l r)) = refl
+pending_back (New (Annotate a c)) = refl
+pending_back (New (Penalty n c)) = refl
 
 -- ---- the size test
 
-pub room_enough : (required size : ℕ) → room_for required size ≡ Enough → required ≤ size
+pub room_enough : (required size : ℕ) → room_for required size ≡ Ok tt → required ≤ size
 room_enough required size e = go (leb required size) refl e
   where
-    go : (t : Bool) → leb required size ≡ t → cond t Enough (Full required) ≡ Enough → required ≤ size
+    go : (t : Bool) → leb required size ≡ t → cond {A = Result Unit Full} t (Ok tt) (Err (record { needed = required })) ≡ Ok tt → required ≤ size
     go true p q = leb-true required size p
     go false p q = let w : ◌≡◌ {A = ℕ} 0 1 = cc in absurd (omega arith)
 
-pub room_full : (required size needed : ℕ) → room_for required size ≡ Full needed → (size < required) × (needed ≡ required)
-room_full required size needed e = go (leb required size) refl e
+pub room_full : (required size : ℕ) (d : Full) → room_for required size ≡ Err d → (size < required) × (d.needed ≡ required)
+room_full required size d e = go (leb required size) refl e
   where
-    go : (t : Bool) → leb required size ≡ t → cond t Enough (Full required) ≡ Full needed → (size < required) × (needed ≡ required)
+    go : (t : Bool) → leb required size ≡ t → cond {A = Result Unit Full} t (Ok tt) (Err (record { needed = required })) ≡ Err d → (size < required) × (d.needed ≡ required)
     go true p q = let w : ◌≡◌ {A = ℕ} 0 1 = cc in absurd (omega arith)
-    go false p q = (leb-false required size p, cc)
+    go false p q = let w : record { needed = required } ≡ d = cc in (leb-false required size p, sym (ap (λ (z : Full). z.needed) w))

@@ -3,7 +3,7 @@
 #![tactic(auto)]
 
 ghost use Rattle.std.specs.Prelude.{◌≡◌, ◌+◌, ◌≤◌, ◌<◌, ◌^◌, length};
-ghost use Rattle.plan.specs.Records.{record_of, pending_of, node_at};
+ghost use Rattle.plan.specs.Records.{node_record, record_of, node_of, pending_of, node_at};
 ghost use Rattle.plan.specs.Arena.{view, additions, room_for, Committing};
 
 use file_tables::{AnnotationId, TextId};
@@ -36,26 +36,25 @@ pub enum PlanNode {
 #[derive(Clone, Copy)]
 pub enum PendingPlan {
     Existing(PlanId),
-    Empty,
-    Text(TextId),
-    Newline {
-        indent: u32,
-    },
-    Concat {
-        left: PlanId,
-        right: PlanId,
-    },
-    Annotate {
-        annotation: AnnotationId,
-        child: PlanId,
-    },
-    Penalty {
-        amount: u32,
-        child: PlanId,
-    },
+    New(PlanNode),
 }
 
-// Kinds: 0 Empty, 1 Text, 2 Newline, 3 Concat, 4 Annotate, 5 Penalty; in a pending plan alone 6, Existing.
+// The kinds of a record.
+const EMPTY: u32 = 0;
+
+const TEXT: u32 = 1;
+
+const NEWLINE: u32 = 2;
+
+const CONCAT: u32 = 3;
+
+const ANNOTATE: u32 = 4;
+
+const PENALTY: u32 = 5;
+
+// In a pending plan alone.
+const EXISTING: u32 = 6;
+
 #[derive(Clone, Copy)]
 pub struct PlanRecord {
     pub first: u32,
@@ -63,11 +62,86 @@ pub struct PlanRecord {
     pub kind: u32,
 }
 
-// Whether the arena has room for the records that are asked for at once.
+impl From<PlanNode> for PlanRecord {
+    ghost from_gives = { λ node r. r ≡ node_record node };
+
+    fn from(node: PlanNode) -> PlanRecord {
+        let (kind, first, second) = match node {
+            PlanNode::Empty => (EMPTY, 0, 0),
+            PlanNode::Text(text) => (TEXT, text.0, 0),
+            PlanNode::Newline { indent } => (NEWLINE, indent, 0),
+            PlanNode::Concat { left, right } => (CONCAT, left.0, right.0),
+            PlanNode::Annotate { annotation, child } => (ANNOTATE, annotation.0, child.0),
+            PlanNode::Penalty { amount, child } => (PENALTY, amount, child.0),
+        };
+        PlanRecord {
+            first,
+            second,
+            kind,
+        }
+    }
+}
+
+impl From<PendingPlan> for PlanRecord {
+    ghost from_gives = { λ pending r. r ≡ record_of pending };
+
+    fn from(pending: PendingPlan) -> PlanRecord {
+        match pending {
+            PendingPlan::Existing(plan) => PlanRecord {
+                first: plan.0,
+                second: 0,
+                kind: EXISTING,
+            },
+            PendingPlan::New(node) => node.into(),
+        }
+    }
+}
+
+impl From<PlanRecord> for PlanNode {
+    ghost from_gives = { λ words node. node ≡ node_of words.kind words.first words.second };
+
+    fn from(words: PlanRecord) -> PlanNode {
+        let PlanRecord {
+            first,
+            second,
+            kind,
+        } = words;
+        match kind {
+            EMPTY => PlanNode::Empty,
+            TEXT => PlanNode::Text(TextId(first)),
+            NEWLINE => PlanNode::Newline { indent: first },
+            CONCAT => PlanNode::Concat {
+                left: PlanId(first),
+                right: PlanId(second),
+            },
+            ANNOTATE => PlanNode::Annotate {
+                annotation: AnnotationId(first),
+                child: PlanId(second),
+            },
+            _ => PlanNode::Penalty {
+                amount: first,
+                child: PlanId(second),
+            },
+        }
+    }
+}
+
+impl From<PlanRecord> for PendingPlan {
+    ghost from_gives = { λ words pending. pending ≡ pending_of words.kind words.first words.second };
+
+    fn from(words: PlanRecord) -> PendingPlan {
+        if words.kind < EXISTING {
+            PendingPlan::New(words.into())
+        } else {
+            PendingPlan::Existing(PlanId(words.first))
+        }
+    }
+}
+
+// The arena has no room for the records that are asked for at once: how many it would have to hold.
 #[derive(Clone, Copy)]
-pub enum PlanRoom {
-    Enough,
-    Full { needed: u64 },
+pub struct Full {
+    pub needed: u64,
 }
 
 // The number of a committed plan, and the number of records then.
@@ -80,70 +154,14 @@ pub struct Committed {
 pub fn pending_record(pending: PendingPlan) -> PlanRecord
     ensures { result ≡ record_of pending }
 {
-    match pending {
-        PendingPlan::Existing(plan) => PlanRecord {
-            first: plan.0,
-            second: 0,
-            kind: 6,
-        },
-        PendingPlan::Empty => PlanRecord {
-            first: 0,
-            second: 0,
-            kind: 0,
-        },
-        PendingPlan::Text(text) => PlanRecord {
-            first: text.0,
-            second: 0,
-            kind: 1,
-        },
-        PendingPlan::Newline { indent } => PlanRecord {
-            first: indent,
-            second: 0,
-            kind: 2,
-        },
-        PendingPlan::Concat { left, right } => PlanRecord {
-            first: left.0,
-            second: right.0,
-            kind: 3,
-        },
-        PendingPlan::Annotate { annotation, child } => PlanRecord {
-            first: annotation.0,
-            second: child.0,
-            kind: 4,
-        },
-        PendingPlan::Penalty { amount, child } => PlanRecord {
-            first: amount,
-            second: child.0,
-            kind: 5,
-        },
-    }
+    pending.into()
 }
 
 // The pending plan whose words these are.
 pub fn pending_plan(words: PlanRecord) -> PendingPlan
     ensures { result ≡ pending_of words.kind words.first words.second }
 {
-    let first = words.first;
-    let second = words.second;
-    let kind = words.kind;
-    match kind {
-        0 => PendingPlan::Empty,
-        1 => PendingPlan::Text(TextId(first)),
-        2 => PendingPlan::Newline { indent: first },
-        3 => PendingPlan::Concat {
-            left: PlanId(first),
-            right: PlanId(second),
-        },
-        4 => PendingPlan::Annotate {
-            annotation: AnnotationId(first),
-            child: PlanId(second),
-        },
-        5 => PendingPlan::Penalty {
-            amount: first,
-            child: PlanId(second),
-        },
-        _ => PendingPlan::Existing(PlanId(first)),
-    }
+    words.into()
 }
 
 // The record of a plan.
@@ -151,49 +169,38 @@ pub fn plan_node(plans: &[[u32; 3]], id: PlanId) -> PlanNode
     requires { id.0 < length plans.now }
     ensures { result ≡ node_at plans.now id.0 }
 {
-    let i = id.0 as usize;
-    let row = plans[i];
-    match row[2] {
-        0 => PlanNode::Empty,
-        1 => PlanNode::Text(TextId(row[0])),
-        2 => PlanNode::Newline { indent: row[0] },
-        3 => PlanNode::Concat {
-            left: PlanId(row[0]),
-            right: PlanId(row[1]),
-        },
-        4 => PlanNode::Annotate {
-            annotation: AnnotationId(row[0]),
-            child: PlanId(row[1]),
-        },
-        _ => PlanNode::Penalty {
-            amount: row[0],
-            child: PlanId(row[1]),
-        },
+    let [first, second, kind] = plans[id.0 as usize];
+    PlanRecord {
+        first,
+        second,
+        kind,
     }
+    .into()
 }
 
 // How many records a pending plan adds.
 pub fn additional_plans(pending: PendingPlan) -> usize
     ensures { result ≡ length (additions (view pending)) }
 {
-    let record = pending_record(pending);
-    if record.kind == 6 {
-        return 0;
+    match pending {
+        PendingPlan::Existing(_) => 0,
+        PendingPlan::New(_) => 1,
     }
-    1
 }
 
 // The size test, for all that is to be committed next.
-pub fn ensure_plan(count: usize, additional: usize, size: usize) -> PlanRoom
+pub fn ensure_plan(count: usize, additional: usize, size: usize) -> Result<(), Full>
     requires { count + additional < 2 ^ 64 }
     ensures { result ≡ room_for (count + additional) size }
 {
     let required = count + additional;
     if size < required {
-        let needed = required as u64;
-        return PlanRoom::Full { needed: needed };
+        Err(Full {
+            needed: required as u64,
+        })
+    } else {
+        Ok(())
     }
-    PlanRoom::Enough
 }
 
 // Puts the pending plan into the arena, after its first `count` records, if it is not there.
@@ -201,19 +208,19 @@ pub fn commit_plan(plans: &mut [[u32; 3]], count: usize, pending: PendingPlan) -
     requires { (count + length (additions (view pending)) ≤ length plans.old) × (count + length (additions (view pending)) < 2 ^ 32) }
     ensures { Committing plans.old count (view pending) plans.new result }
 {
-    let record = pending_record(pending);
-    let first = record.first;
-    if record.kind == 6 {
-        return Committed {
-            plan: PlanId(first),
-            count: count,
-        };
-    }
-    plans[count] = [first, record.second, record.kind];
-    let number = count as u32;
-    let more = count + 1;
-    Committed {
-        plan: PlanId(number),
-        count: more,
+    match pending {
+        PendingPlan::Existing(plan) => Committed { plan, count },
+        PendingPlan::New(node) => {
+            let PlanRecord {
+                first,
+                second,
+                kind,
+            } = node.into();
+            plans[count] = [first, second, kind];
+            Committed {
+                plan: PlanId(count as u32),
+                count: count + 1,
+            }
+        }
     }
 }

@@ -13,7 +13,7 @@ use Rattle.file_encode.specs.Fields.{Bytes}
 use Rattle.file_encode.specs.TextTrip.{texts_total}
 use Rattle.file_encode.specs.Trips.{Encoded, encoded, Right, tables_right, texts_inside}
 use Rattle.file_checks.specs.Judged.{Formed, Judged}
-use Rattle.prepare.specs.declared.read.Answer.TheVariants.{Accepted, Refused}
+use Rattle.std.specs.Prelude.{Ok, Err}
 use Rattle.prepare.specs.File.{ill, wrong, right, Reads, refused, accepted}
 pub use Rattle.prepare.specs.Laws.{held_is}
 
@@ -56,11 +56,11 @@ module _ (s : List ℕ) (f : Filled) (ns : List (List ℕ)) (es xs : List ℕ) (
   pub few : Bytes s → f.fault ≡ 0 → length (take f.counts.choices xs) ≤ 16384
   few z e = let k = encoded s z (well e) in rw (g.counts, g.held.choice_list) (tables_right (tables_of s) k.right).within.choices_high
 
-  pub answer_ill : {lent : Type 0} → lent → (f.fault ≡ 0 → ⊥) → Reads s lent ns es xs ts bs (Refused f.fault)
+  pub answer_ill : {lent : Type 0} → lent → (f.fault ≡ 0 → ⊥) → Reads s lent ns es xs ts bs (Err f.fault)
   answer_ill l n = rw g.fault (refused (form_fault s) l (ill (λ e. n (g.fault ∙ e))))
 
-  pub answer_wrong : {lent : Type 0} → lent → f.fault ≡ 0 → (w : ℕ) → (w ≡ 0 → ⊥) → Judged (tables_held f.counts ns es xs ts bs) w → Reads s lent ns es xs ts bs (Refused w)
+  pub answer_wrong : {lent : Type 0} → lent → f.fault ≡ 0 → (w : ℕ) → (w ≡ 0 → ⊥) → Judged (tables_held f.counts ns es xs ts bs) w → Reads s lent ns es xs ts bs (Err w)
   answer_wrong l e w n j = refused w l (wrong w (well e) n (rw same at j))
 
-  pub answer_right : {lent : Type 0} → lent → f.fault ≡ 0 → (w : ℕ) → w ≡ 0 → Judged (tables_held f.counts ns es xs ts bs) w → Reads s lent ns es xs ts bs (Accepted f.counts)
+  pub answer_right : {lent : Type 0} → lent → f.fault ≡ 0 → (w : ℕ) → w ≡ 0 → Judged (tables_held f.counts ns es xs ts bs) w → Reads s lent ns es xs ts bs (Ok f.counts)
   answer_right l e w z j = rw g.counts (accepted l (right (well e) (rw (same, z) at j)) g.held)

@@ -12,9 +12,8 @@ use Rattle.file_encode.specs.NodeTrip.{or_zero}
 use Rattle.file_encode.specs.Trips.{tables_right, texts_inside}
 use Rattle.file_put.specs.Put.{Put}
 use Rattle.file_checks.specs.Judged.{Formed, Judged}
-use Rattle.prepare.specs.declared.write.Outcome.{Outcome}
-use Rattle.prepare.specs.declared.write.Outcome.TheVariants.{Written, Refused}
-use Rattle.prepare.specs.Writing.{Writes, order, ill, wrong, room, written}
+use Rattle.std.specs.Prelude.{Ok}
+use Rattle.prepare.specs.Writing.{Outcome, unwritten, Writes, order, ill, wrong, room, written}
 
 pub fault_is : (nodes : List (List ℕ)) (edges choices : List ℕ) (texts : List (List ℕ)) (bytes : List ℕ) (n e x a c root space h m t q r : ℕ)
     → length nodes ≡ n → length edges ≡ e → length choices ≡ c → length texts ≡ x
@@ -38,16 +37,16 @@ pub choices_few : (t : Tables) → tables_fault t ≡ 0 → length t.choices ≤
 choices_few t e = (tables_right t e).within.choices_high
 
 module _ (t : Tables) (lent : Type 0) (l : lent) where
-  pub answer_ill : (o : List ℕ) (f : ℕ) → f ≡ tables_fault t → (f ≡ 0 → ⊥) → Writes t lent o o (Refused f 0)
+  pub answer_ill : (o : List ℕ) (f : ℕ) → f ≡ tables_fault t → (f ≡ 0 → ⊥) → Writes t lent o o (unwritten f 0)
   answer_ill o f e n = rw e (ill l (λ z. n (e ∙ z)) refl)
 
-  pub answer_room : (o b b' : List ℕ) (size : ℕ) → tables_fault t ≡ 0 → Judged t 0 → Put b b' 0 size (encode t) → length o < size → Writes t lent o o (Refused 20 size)
+  pub answer_room : (o b b' : List ℕ) (size : ℕ) → tables_fault t ≡ 0 → Judged t 0 → Put b b' 0 size (encode t) → length o < size → Writes t lent o o (unwritten 20 size)
   answer_room o b b' size e j p h =
       let g : size ≡ length (encode t) = p.next ∙ omega arith in
       rw g (room l e j (omega arith) refl)
 
   pub answer_written : (o o' b b' : List ℕ) (size done : ℕ) → Sized t → tables_fault t ≡ 0 → Judged t 0 → Put b b' 0 size (encode t) → size ≤ length o → Put o o' 0 done (encode t)
-      → Writes t lent o o' (Written done)
+      → Writes t lent o o' (Ok done)
   answer_written o o' b b' size done s e j p h q =
       let g : size ≡ length (encode t) = p.next ∙ omega arith in
       let d : done ≡ length (encode t) = q.next ∙ omega arith in

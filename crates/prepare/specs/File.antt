@@ -1,15 +1,18 @@
 -- What a byte string is, and what `read` promises (document 01, "Prepared file", "Calls").
-use Rattle.std.specs.Prelude.{ℕ, ◌≤◌, ◌≡◌, List}
+use Rattle.std.specs.Prelude.{ℕ, ◌≤◌, ◌≡◌, List, Result, Ok, Err}
 use Rattle.file_form.specs.Form.{form_fault, tables_of, counts_of, Holds}
 use Rattle.file_checks.specs.Judged.{Judged}
-use Rattle.prepare.specs.declared.read.Answer.{Answer}
-use Rattle.prepare.specs.declared.read.Answer.TheVariants.{Accepted, Refused}
+use Rattle.file_form.specs.declared.fill.Counts.{Counts}
+
+-- what `read` answers: the counts of a file that is accepted, or the number of its refusal
+abbrev pub Answer : Type 0
+Answer = Result Counts ℕ
 
 -- a byte string is ill-formed (2 to 5, the first in order), or its tables are refused by the first of 6 to 10, or it is accepted
 pub data Means (s : List ℕ) : Answer → Type 0 where
-  ill : (form_fault s ≡ 0 → ⊥) → Means s (Refused (form_fault s))
-  wrong : (n : ℕ) → form_fault s ≡ 0 → (n ≡ 0 → ⊥) → Judged (tables_of s) n → Means s (Refused n)
-  right : form_fault s ≡ 0 → Judged (tables_of s) 0 → Means s (Accepted (counts_of s))
+  ill : (form_fault s ≡ 0 → ⊥) → Means s (Err (form_fault s))
+  wrong : (n : ℕ) → form_fault s ≡ 0 → (n ≡ 0 → ⊥) → Judged (tables_of s) n → Means s (Err n)
+  right : form_fault s ≡ 0 → Judged (tables_of s) 0 → Means s (Ok (counts_of s))
 
 -- each table is lent at its limit
 pub record TablesLent (nodes edges choices texts bytes : ℕ) : Type 0 where
@@ -22,10 +25,10 @@ pub record TablesLent (nodes edges choices texts bytes : ℕ) : Type 0 where
 -- the answer to a file s, with lent tables of these lengths, and the tables at exit: a table lent shorter than its limit is 1, before everything;
 -- else the answer is what s means; after an acceptance the tables hold exactly those of s up to the counts, after a refusal anything
 pub data Reads (s : List ℕ) (lent : Type 0) (nodes : List (List ℕ)) (edges choices : List ℕ) (texts : List (List ℕ)) (bytes : List ℕ) : Answer → Type 0 where
-  order : (lent → ⊥) → Reads s lent nodes edges choices texts bytes (Refused 1)
-  refused : (n : ℕ) → lent → Means s (Refused n) → Reads s lent nodes edges choices texts bytes (Refused n)
+  order : (lent → ⊥) → Reads s lent nodes edges choices texts bytes (Err 1)
+  refused : (n : ℕ) → lent → Means s (Err n) → Reads s lent nodes edges choices texts bytes (Err n)
   accepted :
       lent
-      → Means s (Accepted (counts_of s))
+      → Means s (Ok (counts_of s))
       → Holds (tables_of s) (counts_of s) nodes edges choices texts bytes
-      → Reads s lent nodes edges choices texts bytes (Accepted (counts_of s))
+      → Reads s lent nodes edges choices texts bytes (Ok (counts_of s))

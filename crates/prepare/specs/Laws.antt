@@ -1,7 +1,7 @@
 -- Theorems of the prepared file: one answer to a byte string; an accepted file is the encoding of its tables, so that no two mean the same;
 -- what was read and is written again has the same bytes; what was written and is read again has the same counts and tables;
 -- the writer refuses tables that bytes can say as the reader refuses their file.
-use Rattle.std.specs.Prelude.{◌≡◌, refl, List, ◌++◌, ℕ, ◌≤◌, min, length, take, drop}
+use Rattle.std.specs.Prelude.{◌≡◌, refl, List, ◌++◌, ℕ, ◌≤◌, min, length, take, drop, Ok, Err}
 use Rattle.std.proofs.Common.{sym, ap, ◌∙◌, subst, arith, length-take, take_at, length-take-le}
 use Rattle.file_tables.specs.Tables.{Tables}
 use Rattle.file_form.specs.declared.fill.Counts.{Counts}
@@ -14,13 +14,9 @@ use Rattle.file_encode.specs.Trips.{Counted, Encoded, encoded, reads_back}
 use Rattle.file_encode.proofs.AsRead.{alike}
 use Rattle.file_checks.proofs.Exactly.{judged_one}
 use Rattle.file_checks.specs.Judged.{Judged, Accepted as Kept, reference, text, space, circle, list, accepted}
-use Rattle.prepare.specs.declared.read.Answer.{Answer}
-use Rattle.prepare.specs.declared.read.Answer.TheVariants.{Accepted, Refused}
 use Rattle.prepare.specs.declared.write.FileCounts.{FileCounts}
-use Rattle.prepare.specs.declared.write.Outcome.{Outcome}
-use Rattle.prepare.specs.declared.write.Outcome.TheVariants.{Written, Refused as Unwritten}
-use Rattle.prepare.specs.File.{Means, ill, wrong, right, Reads, order as unlent, refused as not_read, accepted as was_read}
-use Rattle.prepare.specs.Writing.{Writes, order, ill as not_formed, wrong as not_kept, room, written, file_counts, lent_tables, LentAt}
+use Rattle.prepare.specs.File.{Answer, Means, ill, wrong, right, Reads, order as unlent, refused as not_read, accepted as was_read}
+use Rattle.prepare.specs.Writing.{Outcome, unwritten, Writes, order, ill as not_formed, wrong as not_kept, room, written, file_counts, lent_tables, LentAt}
 
 -- ---- one answer
 
@@ -30,14 +26,14 @@ means_one (ill n) (ill m) = refl
 means_one (ill n) (wrong k e z j) = absurd (n e)
 means_one (ill n) (right e j) = absurd (n e)
 means_one (wrong k e z j) (ill n) = absurd (n e)
-means_one (wrong k e z j) (wrong l f y i) = ap Refused (judged_one j i)
+means_one (wrong k e z j) (wrong l f y i) = ap Err (judged_one j i)
 means_one (wrong k e z j) (right f i) = absurd (z (judged_one j i))
 means_one (right e j) (ill n) = absurd (n e)
 means_one (right e j) (wrong k f z i) = absurd (z (judged_one i j))
 means_one (right e j) (right f i) = refl
 
 -- an accepted file is well formed: no refusal of 2 to 5, and all that 6 to 10 ask
-pub accepted_well : {s : List ℕ} {n : Counts} → Means s (Accepted n) → (form_fault s ≡ 0) × Kept (tables_of s)
+pub accepted_well : {s : List ℕ} {n : Counts} → Means s (Ok n) → (form_fault s ≡ 0) × Kept (tables_of s)
 accepted_well (right e j) = (e, kept j refl)
   where
     kept : {t : Tables} {k : ℕ} → Judged t k → k ≡ 0 → Kept t
@@ -51,11 +47,11 @@ accepted_well (right e j) = (e, kept j refl)
 -- ---- round trips
 
 -- an accepted file is the encoding of its tables
-pub file_is : {s : List ℕ} {n : Counts} → Bytes s → Means s (Accepted n) → encode (tables_of s) ≡ s
+pub file_is : {s : List ℕ} {n : Counts} → Bytes s → Means s (Ok n) → encode (tables_of s) ≡ s
 file_is z m = (encoded _ z (accepted_well m).0).file
 
 -- no two files mean the same
-pub one_file : {s s' : List ℕ} {n n' : Counts} → Bytes s → Bytes s' → Means s (Accepted n) → Means s' (Accepted n') → tables_of s ≡ tables_of s' → s ≡ s'
+pub one_file : {s s' : List ℕ} {n n' : Counts} → Bytes s → Bytes s' → Means s (Ok n) → Means s' (Ok n') → tables_of s ≡ tables_of s' → s ≡ s'
 one_file z z' m m' e = sym (file_is z m) ∙ ap encode e ∙ file_is z' m'
 
 -- what was written means the tables that were written, with their counts
@@ -64,9 +60,9 @@ pub record WrittenFile (t : Tables) (k : ℕ) (s : List ℕ) : Type 0 where
   pub file : s ≡ encode t
   pub tables : tables_of s ≡ t
   pub counts : Counted t (counts_of s)
-  pub means : Means s (Accepted (counts_of s))
+  pub means : Means s (Ok (counts_of s))
 
-pub written_means : {t : Tables} {lent : Type 0} {out out' : List ℕ} {k : ℕ} → Writes t lent out out' (Written k) → WrittenFile t k (take k out')
+pub written_means : {t : Tables} {lent : Type 0} {out out' : List ℕ} {k : ℕ} → Writes t lent out out' (Ok k) → WrittenFile t k (take k out')
 written_means {t} {out = out} {out' = out'} (written l z e j h b) =
     let r = reads_back t z e in
     let g : take (length (encode t)) out' ≡ encode t = rw b (take_at (encode t) (drop (length (encode t)) out) (length (encode t)) refl) in
@@ -105,18 +101,18 @@ counts_same n c ns es xs ts bs l k =
 -- a file that is read into other memory with the answer r has these counts and these tables
 pub record ReadAs (n : FileCounts) (t : Tables) (ns : List (List ℕ)) (es xs : List ℕ) (ts : List (List ℕ)) (bs : List ℕ) (r : Answer) : Type 0 where
   pub told : Counts
-  pub is_accepted : r ≡ Accepted told
+  pub is_accepted : r ≡ Ok told
   pub counts : file_counts told ≡ n
   pub text_bytes : told.bytes ≡ length t.bytes
   pub tables : tables_held told ns es xs ts bs ≡ t
 
-written_lent : {t : Tables} {lent : Type 0} {out out' : List ℕ} {k : ℕ} → Writes t lent out out' (Written k) → lent
+written_lent : {t : Tables} {lent : Type 0} {out out' : List ℕ} {k : ℕ} → Writes t lent out out' (Ok k) → lent
 written_lent (written a z e j h b) = a
 
 -- what was written and is read again has the same counts and tables
 pub read_again : {n : FileCounts} {ns : List (List ℕ)} {es xs : List ℕ} {ts : List (List ℕ)} {bs out out' : List ℕ} {k : ℕ}
     {lent : Type 0} {ns' : List (List ℕ)} {es' xs' : List ℕ} {ts' : List (List ℕ)} {bs' : List ℕ} {r : Answer}
-    → Writes (lent_tables n ns es xs ts bs) (LentAt n ns es xs ts bs) out out' (Written k) → lent → Reads (take k out') lent ns' es' xs' ts' bs' r
+    → Writes (lent_tables n ns es xs ts bs) (LentAt n ns es xs ts bs) out out' (Ok k) → lent → Reads (take k out') lent ns' es' xs' ts' bs' r
     → ReadAs n (lent_tables n ns es xs ts bs) ns' es' xs' ts' bs' r
 read_again {n} {ns} {es} {xs} {ts} {bs} {out} {out'} {k} {lent} {ns'} {es'} {xs'} {ts'} {bs'} w l r = go (written_lent w) (written_means w) r
   where
@@ -159,7 +155,7 @@ lent_at s ns es xs ts bs e h =
 
 -- the outcome for the tables of an accepted file: the same bytes, or 20 with their number
 again : {lent : Type 0} {out out' : List ℕ} (s : List ℕ) (t : Tables) {r : Outcome} → lent → encode t ≡ s → tables_fault t ≡ 0 → Judged t 0 → length s ≤ length out → Writes t lent out out' r
-    → (r ≡ Written (length s)) × (out' ≡ s ++ drop (length s) out)
+    → (r ≡ Ok (length s)) × (out' ≡ s ++ drop (length s) out)
 again s t l f e j h (order n g) = absurd (n l)
 again s t l f e j h (not_formed m n g) = absurd (n e)
 again s t l f e j h (not_kept k m z n i g) = absurd (n (judged_one i j))
@@ -168,9 +164,9 @@ again s t l f e j h (written m y z i k g) = rw (← f) (refl, g)
 
 -- writing what was read gives the same bytes
 pub written_again : {n : Counts} {out out' : List ℕ} {r : Outcome} (s : List ℕ) (ns : List (List ℕ)) (es xs : List ℕ) (ts : List (List ℕ)) (bs : List ℕ)
-    → Bytes s → Means s (Accepted n) → Holds (tables_of s) (counts_of s) ns es xs ts bs → length s ≤ length out
+    → Bytes s → Means s (Ok n) → Holds (tables_of s) (counts_of s) ns es xs ts bs → length s ≤ length out
     → Writes (lent_tables (file_counts (counts_of s)) ns es xs ts bs) (LentAt (file_counts (counts_of s)) ns es xs ts bs) out out' r
-    → (r ≡ Written (length s)) × (out' ≡ s ++ drop (length s) out)
+    → (r ≡ Ok (length s)) × (out' ≡ s ++ drop (length s) out)
 written_again {out = out} {out' = out'} {r = r} s ns es xs ts bs z m h k w =
     let a = accepted_well m in
     let e = encoded s z a.0 in
@@ -181,36 +177,36 @@ written_again {out = out} {out' = out'} {r = r} s ns es xs ts bs z m h k w =
 
 -- what the writer answers to tables, by what the reader says of their file s: the same refusal, or 20 where there is no room, or all is written
 pub data AsRead (s : List ℕ) : Outcome → Type 0 where
-  refused_too : (n : ℕ) → Means s (Refused n) → AsRead s (Unwritten n 0)
-  no_room : Means s (Accepted (counts_of s)) → AsRead s (Unwritten 20 (length s))
-  all_written : Means s (Accepted (counts_of s)) → AsRead s (Written (length s))
+  refused_too : (n : ℕ) → Means s (Err n) → AsRead s (unwritten n 0)
+  no_room : Means s (Ok (counts_of s)) → AsRead s (unwritten 20 (length s))
+  all_written : Means s (Ok (counts_of s)) → AsRead s (Ok (length s))
 
 -- of tables that bytes can say. The rest (`Sayable`: a kind past a byte, a malformed flat mark, a text that starts elsewhere) is 3 at its place in the order of the file
 pub as_read : {t : Tables} {lent : Type 0} {out out' : List ℕ} {r : Outcome} → Sayable t → lent → Writes t lent out out' r → AsRead (encode t) r
 as_read y l (order n g) = absurd (n l)
 as_read {t} y l (not_formed m n g) =
     let e = alike t y in
-    subst (λ (k : ℕ). AsRead (encode t) (Unwritten k 0)) e (refused_too (form_fault (encode t)) (ill (λ z. n (sym e ∙ z))))
+    subst (λ (k : ℕ). AsRead (encode t) (unwritten k 0)) e (refused_too (form_fault (encode t)) (ill (λ z. n (sym e ∙ z))))
 as_read {t} y l (not_kept k m z n j g) = let b = reads_back t y.sized z in refused_too k (wrong k b.fine n (rw b.tables j))
 as_read {t} y l (room m z j h g) = let b = reads_back t y.sized z in no_room (right b.fine (rw b.tables j))
 as_read {t} y l (written m s z j h g) = let b = reads_back t y.sized z in all_written (right b.fine (rw b.tables j))
 
 -- the writer refuses by n (3, 4, 6 to 10) exactly where the reader refuses the file by n
-pub refused_as_read : {t : Tables} {lent : Type 0} {out out' : List ℕ} {n k : ℕ} → Sayable t → lent → Writes t lent out out' (Unwritten n k) → (n ≡ 20 → ⊥) → Means (encode t) (Refused n)
+pub refused_as_read : {t : Tables} {lent : Type 0} {out out' : List ℕ} {n k : ℕ} → Sayable t → lent → Writes t lent out out' (unwritten n k) → (n ≡ 20 → ⊥) → Means (encode t) (Err n)
 refused_as_read y l w f = go (as_read y l w) f
   where
-    go : {s : List ℕ} {n k : ℕ} → AsRead s (Unwritten n k) → (n ≡ 20 → ⊥) → Means s (Refused n)
+    go : {s : List ℕ} {n k : ℕ} → AsRead s (unwritten n k) → (n ≡ 20 → ⊥) → Means s (Err n)
     go (refused_too n m) f = m
     go (no_room m) f = absurd (f refl)
 
-pub refuses_as_read : {t : Tables} {lent : Type 0} {out out' : List ℕ} {r : Outcome} {n : ℕ} → Sayable t → lent → Writes t lent out out' r → Means (encode t) (Refused n) → r ≡ Unwritten n 0
+pub refuses_as_read : {t : Tables} {lent : Type 0} {out out' : List ℕ} {r : Outcome} {n : ℕ} → Sayable t → lent → Writes t lent out out' r → Means (encode t) (Err n) → r ≡ unwritten n 0
 refuses_as_read y l w m = go (as_read y l w) m
   where
     number : Answer → ℕ
-    number (Accepted c) = 0
-    number (Refused n) = n
+    number (Ok c) = 0
+    number (Err n) = n
 
-    go : {s : List ℕ} {r : Outcome} {n : ℕ} → AsRead s r → Means s (Refused n) → r ≡ Unwritten n 0
-    go (refused_too k q) m = ap (λ (x : ℕ). Unwritten x 0) (ap number (means_one q m))
+    go : {s : List ℕ} {r : Outcome} {n : ℕ} → AsRead s r → Means s (Err n) → r ≡ unwritten n 0
+    go (refused_too k q) m = ap (λ (x : ℕ). unwritten x 0) (ap number (means_one q m))
     go (no_room q) m = let e = means_one q m in let z : ◌≡◌ {A = ℕ} 0 1 = cc in absurd (omega arith)
     go (all_written q) m = let e = means_one q m in let z : ◌≡◌ {A = ℕ} 0 1 = cc in absurd (omega arith)

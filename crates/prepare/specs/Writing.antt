@@ -1,13 +1,19 @@
 -- What `write` promises (document 01, "Prepared file": the writer).
-use Rattle.std.specs.Prelude.{ℕ, ◌≤◌, ◌<◌, ◌≡◌, List, ◌++◌, length, take, drop}
+use Rattle.std.specs.Prelude.{ℕ, ◌≤◌, ◌<◌, ◌≡◌, List, ◌++◌, length, take, drop, Result, Ok, Err}
 use Rattle.file_tables.specs.Tables.{Tables, tables}
 use Rattle.file_form.specs.declared.fill.Counts.{Counts}
 use Rattle.file_encode.specs.Encode.{encode, lengths, Sized}
 use Rattle.file_encode.specs.Faults.{tables_fault}
 use Rattle.file_checks.specs.Judged.{Judged}
 use Rattle.prepare.specs.declared.write.FileCounts.{FileCounts}
-use Rattle.prepare.specs.declared.write.Outcome.{Outcome}
-use Rattle.prepare.specs.declared.write.Outcome.TheVariants.{Written, Refused}
+use Rattle.prepare.specs.declared.write.Unwritten.{Unwritten}
+
+-- what `write` answers: how many bytes were written, or the refusal
+abbrev pub Outcome : Type 0
+Outcome = Result ℕ Unwritten
+
+abbrev pub unwritten : ℕ → ℕ → Outcome
+unwritten n k = Err (record { number = n; needed = k })
 
 -- the counts that a file has are those that were read, but for the number of its text bytes, which is the sum of the lengths
 abbrev pub file_counts : Counts → FileCounts
@@ -47,16 +53,16 @@ pub record Cut (n : FileCounts) (nodes : List (List ℕ)) (edges choices : List 
 -- as the reader refuses their file; then 20 with the file's length where the lent bytes are too few. A refusal alters no byte.
 -- Otherwise t is as tables stand in memory, and the bytes begin with the file of t and are unaltered past it
 pub data Writes (t : Tables) (lent : Type 0) (out out' : List ℕ) : Outcome → Type 0 where
-  order : (lent → ⊥) → out' ≡ out → Writes t lent out out' (Refused 1 0)
-  ill : lent → (tables_fault t ≡ 0 → ⊥) → out' ≡ out → Writes t lent out out' (Refused (tables_fault t) 0)
-  wrong : (k : ℕ) → lent → tables_fault t ≡ 0 → (k ≡ 0 → ⊥) → Judged t k → out' ≡ out → Writes t lent out out' (Refused k 0)
+  order : (lent → ⊥) → out' ≡ out → Writes t lent out out' (unwritten 1 0)
+  ill : lent → (tables_fault t ≡ 0 → ⊥) → out' ≡ out → Writes t lent out out' (unwritten (tables_fault t) 0)
+  wrong : (k : ℕ) → lent → tables_fault t ≡ 0 → (k ≡ 0 → ⊥) → Judged t k → out' ≡ out → Writes t lent out out' (unwritten k 0)
   room :
       lent
       → tables_fault t ≡ 0
       → Judged t 0
       → length out < length (encode t)
       → out' ≡ out
-      → Writes t lent out out' (Refused 20 (length (encode t)))
+      → Writes t lent out out' (unwritten 20 (length (encode t)))
   written :
       lent
       → Sized t
@@ -64,4 +70,4 @@ pub data Writes (t : Tables) (lent : Type 0) (out out' : List ℕ) : Outcome →
       → Judged t 0
       → length (encode t) ≤ length out
       → out' ≡ encode t ++ drop (length (encode t)) out
-      → Writes t lent out out' (Written (length (encode t)))
+      → Writes t lent out out' (Ok (length (encode t)))

@@ -9,12 +9,6 @@ use file_checks::judge;
 use file_form::fill::{Counts, fill};
 use file_tables::{NodeId, TextId};
 
-#[derive(Clone, Copy)]
-pub enum Answer {
-    Accepted(Counts),
-    Refused(u32),
-}
-
 // The first refusal of 6 to 10, or 0, with working memory of its own.
 pub fn judged(
     nodes: &[[u32; 8]],
@@ -54,53 +48,36 @@ pub fn read_lent(
     choices: &mut [u32],
     texts: &mut [[u32; 3]],
     bytes: &mut [u8],
-) -> Answer
+) -> Result<Counts, u32>
     requires { TablesLent (length nodes.old) (length edges.old) (length choices.old) (length texts.old) (length bytes.old) }
     ensures { Reads file.now (TablesLent (length nodes.old) (length edges.old) (length choices.old) (length texts.old) (length bytes.old)) nodes.new edges.new choices.new texts.new bytes.new result }
 {
     let f = fill(file, nodes, edges, choices, texts, bytes);
     if f.fault != 0 {
-        return Answer::Refused(f.fault);
+        return Err(f.fault);
     }
     let n = f.counts;
-    let a = n.nodes as usize;
-    let b = n.edges as usize;
-    let c = n.choices as usize;
-    let d = n.texts as usize;
-    let e = n.bytes as usize;
     let w = judged(
-        &nodes[..a],
-        &edges[..b],
-        &choices[..c],
-        &texts[..d],
-        &bytes[..e],
+        &nodes[..n.nodes as usize],
+        &edges[..n.edges as usize],
+        &choices[..n.choices as usize],
+        &texts[..n.texts as usize],
+        &bytes[..n.bytes as usize],
         n.annotations,
         n.root,
         n.space,
     );
     if w != 0 {
-        return Answer::Refused(w);
+        return Err(w);
     }
-    Answer::Accepted(n)
+    Ok(n)
 }
 
 // Whether each table is lent at its limit (1 where one is not).
 pub fn tables_lent(nodes: usize, edges: usize, choices: usize, texts: usize, bytes: usize) -> bool
     ensures { Told (TablesLent nodes edges choices texts bytes) result }
 {
-    if nodes < 4096 {
-        return false;
-    }
-    if edges < 16384 {
-        return false;
-    }
-    if choices < 16384 {
-        return false;
-    }
-    if texts < 4096 {
-        return false;
-    }
-    65536 <= bytes
+    4096 <= nodes && 16384 <= edges && 16384 <= choices && 4096 <= texts && 65536 <= bytes
 }
 
 pub fn read(
@@ -110,7 +87,7 @@ pub fn read(
     choices: &mut [u32],
     texts: &mut [[u32; 3]],
     bytes: &mut [u8],
-) -> Answer
+) -> Result<Counts, u32>
     ensures { Reads file.now (TablesLent (length nodes.old) (length edges.old) (length choices.old) (length texts.old) (length bytes.old)) nodes.new edges.new choices.new texts.new bytes.new result }
 {
     if !tables_lent(
@@ -120,7 +97,7 @@ pub fn read(
         texts.len(),
         bytes.len(),
     ) {
-        return Answer::Refused(1);
+        return Err(1);
     }
     read_lent(file, nodes, edges, choices, texts, bytes)
 }

@@ -4,7 +4,7 @@ ghost use Rattle.file_encode.specs.Encode.{lengths, Wide, Sized};
 ghost use Rattle.file_encode.specs.Faults.{tables_fault};
 ghost use Rattle.file_tables.specs.Tables.{tables};
 ghost use Rattle.file_checks.specs.Judged.{Judged};
-ghost use Rattle.prepare.specs.Writing.{file_counts, lent_tables, LentAt, Cut, Writes};
+ghost use Rattle.prepare.specs.Writing.{file_counts, lent_tables, LentAt, Cut, Writes, unwritten};
 
 use crate::read::judged;
 use file_encode::faults::{header_fault, nodes_fault, or_else, texts_fault};
@@ -28,25 +28,29 @@ pub struct FileCounts {
 pub fn file_counts(n: Counts) -> FileCounts
     ensures { result ≡ file_counts n }
 {
-    let root = n.root;
-    let space = n.space;
     FileCounts {
         nodes: n.nodes,
         edges: n.edges,
         choices: n.choices,
         texts: n.texts,
         annotations: n.annotations,
-        root: root,
-        space: space,
+        root: n.root,
+        space: n.space,
     }
 }
 
+// The refusal and, for 20, how many bytes the file has.
 #[derive(Clone, Copy)]
-pub enum Outcome {
-    // How many bytes were written.
-    Written(usize),
-    // The refusal and, for 20, how many bytes the file has.
-    Refused(u32, usize),
+pub struct Unwritten {
+    pub number: u32,
+    pub needed: usize,
+}
+
+// A refusal for which the length of `out` does not matter.
+fn refused(number: u32) -> Result<usize, Unwritten>
+    ensures { result ≡ unwritten number 0 }
+{
+    Err(Unwritten { number, needed: 0 })
 }
 
 // The first refusal of 3 and 4, or 0.
@@ -69,7 +73,7 @@ fn write_right(
     texts: &[[u32; 3]],
     bytes: &[u8],
     out: &mut [u8],
-) -> Outcome
+) -> Result<usize, Unwritten>
     requires space_value { tables_fault (tables nodes.now edges.now choices.now texts.now bytes.now n.annotations n.root.0 n.space.0) ≡ 0 }
     requires sized { Sized (tables nodes.now edges.now choices.now texts.now bytes.now n.annotations n.root.0 n.space.0) }
     requires judged { Judged (tables nodes.now edges.now choices.now texts.now bytes.now n.annotations n.root.0 n.space.0) 0 }
@@ -90,7 +94,10 @@ fn write_right(
         space,
     );
     if out.len() < size {
-        return Outcome::Refused(20, size);
+        return Err(Unwritten {
+            number: 20,
+            needed: size,
+        });
     }
     let done = put_tables(
         out,
@@ -103,7 +110,7 @@ fn write_right(
         root,
         space,
     );
-    Outcome::Written(done)
+    Ok(done)
 }
 
 // Tables that are lent at their counts.
@@ -115,14 +122,14 @@ fn write_tables(
     texts: &[[u32; 3]],
     bytes: &[u8],
     out: &mut [u8],
-) -> Outcome
+) -> Result<usize, Unwritten>
     requires cut { Cut n nodes.now edges.now choices.now texts.now }
     requires bytes_len { length bytes.now ≡ lengths texts.now }
     ensures { Writes (tables nodes.now edges.now choices.now texts.now bytes.now n.annotations n.root.0 n.space.0) (length bytes.now ≡ lengths texts.now) out.old out.new result }
 {
     let f = tables_fault(n, nodes, texts);
     if f != 0 {
-        return Outcome::Refused(f, 0);
+        return refused(f);
     }
     let w = judged(
         nodes,
@@ -135,7 +142,7 @@ fn write_tables(
         n.space,
     );
     if w != 0 {
-        return Outcome::Refused(w, 0);
+        return refused(w);
     }
     write_right(n, nodes, edges, choices, texts, bytes, out)
 }
@@ -149,13 +156,13 @@ fn write_cut(
     texts: &[[u32; 3]],
     bytes: &[u8],
     out: &mut [u8],
-) -> Outcome
+) -> Result<usize, Unwritten>
     requires { Cut n nodes.now edges.now choices.now texts.now }
     ensures { Writes (tables nodes.now edges.now choices.now texts.now (take (lengths texts.now) bytes.now) n.annotations n.root.0 n.space.0) (lengths texts.now ≤ length bytes.now) out.old out.new result }
 {
     let total = text_total(texts);
     if bytes.len() < total {
-        return Outcome::Refused(1, 0);
+        return refused(1);
     }
     write_tables(n, nodes, edges, choices, texts, &bytes[..total], out)
 }
@@ -169,24 +176,15 @@ pub fn write(
     texts: &[[u32; 3]],
     bytes: &[u8],
     out: &mut [u8],
-) -> Outcome
+) -> Result<usize, Unwritten>
     ensures { Writes (lent_tables n nodes.now edges.now choices.now texts.now bytes.now) (LentAt n nodes.now edges.now choices.now texts.now bytes.now) out.old out.new result }
 {
     let a = n.nodes as usize;
-    if nodes.len() < a {
-        return Outcome::Refused(1, 0);
-    }
     let b = n.edges as usize;
-    if edges.len() < b {
-        return Outcome::Refused(1, 0);
-    }
     let c = n.choices as usize;
-    if choices.len() < c {
-        return Outcome::Refused(1, 0);
-    }
     let d = n.texts as usize;
-    if texts.len() < d {
-        return Outcome::Refused(1, 0);
+    if nodes.len() < a || edges.len() < b || choices.len() < c || texts.len() < d {
+        return refused(1);
     }
     write_cut(
         n,

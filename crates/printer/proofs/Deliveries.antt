@@ -1,4 +1,5 @@
 -- From the first half's promise and the second half's to the whole call's.
+use Rattle.std.specs.Prelude.{Ok, Err, Option as Optional, Some as Inside, None as Outside}
 use mathlib.Core.Path.{◌≡◌, refl, sym, ◌∙◌, ap, ap₂, subst}
 use mathlib.Core.List.{List, [], ◌∷◌, ◌++◌, map}
 use Prim.Native.Nat.{ℕ, zero, suc, ◌≤◌}
@@ -6,19 +7,14 @@ use native.Mathlib.Omega.{arith}
 use lib.ListN.{length, take, drop, get_or, length-map}
 use Rattle.layout.specs.Spans.{Span}
 use Rattle.spans.specs.declared.AnnotationSpan.{AnnotationSpan}
-use Rattle.spans.specs.declared.Parent.{Parent}
-use Rattle.spans.specs.declared.Parent.TheVariants.{Nothing, Span as Inside}
+use Rattle.spans.specs.declared.SpanId.{SpanId}
 use Rattle.spans.specs.Spans.{parent_from}
 use Rattle.solve_workspace.specs.declared.Bounds.{Bounds}
 use Rattle.solve_workspace.specs.declared.RenderOptions.{RenderOptions}
 use Rattle.materialize.specs.Rows.{Row, parent_word}
-use Rattle.render.specs.declared.page.Rendered.{Rendered}
-use Rattle.render.specs.declared.page.Rendered.TheVariants.{Refused as Denial}
-use Rattle.render.specs.declared.page.Drafted.{Drafted}
-use Rattle.render.specs.declared.page.Drafted.TheVariants.{Page as Drawing, Refused as Denied}
 use Rattle.render.specs.declared.order.Lengths.{Lengths}
-use Rattle.render.specs.Rendered.{parent_of, span_of, Front}
-use Rattle.render.specs.Drafts.{page_of}
+use Rattle.render.specs.Rendered.{Rendered, parent_of, span_of, Front}
+use Rattle.render.specs.Drafts.{Drafted, page_of}
 use Rattle.render.specs.Call.{settings}
 use Rattle.desks.specs.declared.Desks.{Desks}
 use Rattle.desks.specs.declared.SharedRecord.{SharedRecord}
@@ -27,8 +23,7 @@ use Rattle.desks.specs.Lent.{settled}
 use Rattle.desks.specs.Layer.{work_left}
 use Rattle.desks.specs.Kinds.{single_steady}
 use Rattle.desks.specs.Calls.{DeskRendering, DeskDrafting}
-use Rattle.printer.specs.declared.Outcome.{Outcome}
-use Rattle.printer.specs.Printed.{Printed}
+use Rattle.printer.specs.Printed.{Outcome, Printed}
 use Rattle.records.specs.Records.{parent_in, span_in, row_in, rows_in}
 use Rattle.printer.specs.Delivered.{outcome, counts_first, counts_last, WroteOf, DeliverableOf, Deliverable, Delivered}
 
@@ -37,13 +32,13 @@ use Rattle.printer.specs.Delivered.{outcome, counts_first, counts_last, WroteOf,
 abbrev record_of : Row → AnnotationSpan
 record_of r = record { annotation = record { 0 = get_or r 0 0 }; start = get_or r 1 0; end = get_or r 2 0; parent = parent_from (get_or r 3 0) }
 
-parent_there : (p : Parent) → parent_of (parent_word (parent_in p)) ≡ parent_in p
-parent_there Nothing = refl
+parent_there : (p : Optional SpanId) → parent_of (parent_word (parent_in p)) ≡ parent_in p
+parent_there Outside = refl
 parent_there (Inside s) = refl
 
-parent_back : (p : Parent) → parent_from (parent_word (parent_in p)) ≡ p
+parent_back : (p : Optional SpanId) → parent_from (parent_word (parent_in p)) ≡ p
 unfolding parent_from
-parent_back Nothing = refl
+parent_back Outside = refl
 parent_back (Inside s) = refl
 
 span_there : (s : AnnotationSpan) → span_of (row_in s) ≡ span_in s
@@ -85,18 +80,18 @@ front_back {n} {k} {l} f = record {
 
 -- the answer of what is drafted, once it is written
 abbrev answer_in : Drafted → Rendered
-answer_in (Drawing d) = page_of d
-answer_in (Denied n needed k) = Denial n needed k
+answer_in (Ok d) = page_of d
+answer_in (Err e) = Err e
 
 rendering : {n : ℕ} {D : Desks} {file : List ℕ} {o : RenderOptions} {b : Bounds} {l : Lengths} {plans texts : List Row} {bytes output₀ output : List ℕ} (spans₀ spans : List AnnotationSpan) (r : Drafted) → DeskDrafting n D file o b l plans texts bytes r
     → length output ≡ length output₀ → length spans ≡ length spans₀ → WroteOf plans texts bytes output₀ output spans₀ spans r → DeskRendering n D file o b l output₀ output (rows_in spans₀) (rows_in spans) (answer_in r)
-rendering {output₀ = output₀} {output = output} spans₀ spans (Drawing d) x e f y = x.half.by.1.by output₀ output (rows_in spans₀) (rows_in spans) e (length-map spans row_in ∙ f ∙ sym (length-map spans₀ row_in)) y
-rendering {output₀ = output₀} spans₀ spans (Denied m needed k) x e f y = rw (y.0, y.1) (x.half.by output₀ (rows_in spans₀))
+rendering {output₀ = output₀} {output = output} spans₀ spans (Ok d) x e f y = x.half.by.1.by output₀ output (rows_in spans₀) (rows_in spans) e (length-map spans row_in ∙ f ∙ sym (length-map spans₀ row_in)) y
+rendering {output₀ = output₀} spans₀ spans (Err z) x e f y = rw (y.0, y.1) (x.half.by output₀ (rows_in spans₀))
 
 -- its work is no more than the desk may do
 spends : {n : ℕ} {D : Desks} {file : List ℕ} {o : RenderOptions} {b : Bounds} {l : Lengths} {output₀ output : List ℕ} {rows₀ rows : List Row} (r : Drafted) → DeskRendering n D file o b l output₀ output rows₀ rows (answer_in r) → (counts_first r).work_items ≤ remaining D n
-spends {file = file} {o = o} (Drawing d) R = work_left (single_steady file (settings o)) R.right.serving.answers
-spends {file = file} {o = o} (Denied m needed k) R = work_left (single_steady file (settings o)) R.right.serving.answers
+spends {file = file} {o = o} (Ok d) R = work_left (single_steady file (settings o)) R.right.serving.answers
+spends {file = file} {o = o} (Err e) R = work_left (single_steady file (settings o)) R.right.serving.answers
 
 module _ {n : ℕ} {before : SharedRecord} {file : List ℕ} {o : RenderOptions} {b : Bounds} {l : Lengths} {plans texts : List Row} {bytes : List ℕ} where
   -- what `finish` asks
@@ -105,7 +100,7 @@ module _ {n : ℕ} {before : SharedRecord} {file : List ℕ} {o : RenderOptions}
   deliverable r {visit} {depth} {output} {spans} x v h w c = record { by = writes r x; work_left = λ output' spans' e f y. spends r (rendering spans spans' r x e f y) }
     where
       writes : (t : Drafted) → DeskDrafting n before.desks file o b l plans texts bytes t → DeliverableOf b plans texts bytes visit depth output spans t
-      writes (Drawing d) y =
+      writes (Ok d) y =
           let p = y.lent d refl in (
             y.half.by.0,
             record {
@@ -116,7 +111,7 @@ module _ {n : ℕ} {before : SharedRecord} {file : List ℕ} {o : RenderOptions}
               spans_lent = omega (arith, p.spans, c, length-map spans row_in);
             },
           )
-      writes (Denied m needed k) y = tt
+      writes (Err e) y = tt
 
   -- the whole call's promise
   pub printed : {output₀ output : List ℕ} {spans₀ spans : List AnnotationSpan} {after : SharedRecord} {z : Outcome} (r : Drafted) → DeskDrafting n before.desks file o b l plans texts bytes r
@@ -127,13 +122,13 @@ module _ {n : ℕ} {before : SharedRecord} {file : List ℕ} {o : RenderOptions}
       (subst (λ (u : Outcome). Printed n before file o b l output₀ output spans₀ spans (settled before n (counts_last r)) u) (sym y.outcome_is) (of r (rendering spans₀ spans r x e f y.wrote)))
     where
       of : (t : Drafted) → DeskRendering n before.desks file o b l output₀ output (rows_in spans₀) (rows_in spans) (answer_in t) → Printed n before file o b l output₀ output spans₀ spans (settled before n (counts_last t)) (outcome t)
-      of (Drawing d) R = record {
+      of (Ok d) R = record {
         right = rw (← spans_there d.spans spans) R.right;
         output_is = R.stands.output_is;
         spans_are = front_back R.stands.rows_are;
         no_fit_checks = refl;
       }
-      of (Denied m needed k) R = record {
+      of (Err e) R = record {
         right = R.right;
         output_is = R.stands.output_is;
         spans_are = front_back R.stands.rows_are;

@@ -1,4 +1,5 @@
 -- The second half of a call: what its steps ask, and what they come to.
+use Rattle.std.specs.Prelude.{Ok, Err}
 use mathlib.Core.Path.{◌≡◌, refl, ap, ◌∙◌}
 use mathlib.Core.List.{List}
 use Prim.Native.Nat.{ℕ, ◌+◌, ◌≤◌, ◌<◌}
@@ -12,15 +13,13 @@ use Rattle.materialize.specs.Rows.{Row}
 use Rattle.materialize.proofs.Written.{some_visit}
 use Rattle.records.specs.Records.{visited, Begun, Recorded}
 use Rattle.render.specs.declared.page.Draft.{Draft}
-use Rattle.render.specs.declared.page.Drafted.{Drafted}
-use Rattle.render.specs.declared.page.Drafted.TheVariants.{Page as Drawing, Refused as Denied}
 use Rattle.render.specs.Rendered.{with_counts}
-use Rattle.render.specs.Drafts.{capacity, chosen, Drawn}
+use Rattle.render.specs.Drafts.{Drafted, capacity, chosen, Drawn}
 use Rattle.render.proofs.Halves.{drawn_passes}
 use Rattle.desks.specs.declared.SharedRecord.{SharedRecord}
 use Rattle.desks.specs.Desks.{remaining}
 use Rattle.desks.specs.Lent.{settled}
-use Rattle.printer.specs.declared.Outcome.{Outcome}
+use Rattle.printer.specs.Printed.{Outcome}
 use Rattle.printer.specs.Delivered.{outcome, counts_first, counts_last, start_of, start_words, Rooted, WroteOf, Deliverable, Delivered}
 
 -- visits counted one by one from the draft's counts are the draft's visits
@@ -29,25 +28,25 @@ last_counts d y = rw y.no_fit_checks refl
 
 -- and the work is the draft's
 same_work : (a : Drafted) → (counts_last a).work_items ≡ (counts_first a).work_items
-same_work (Drawing d) = refl
-same_work (Denied m needed k) = refl
+same_work (Ok d) = refl
+same_work (Err e) = refl
 
 wrote : {plans texts : List Row} {bytes output output' : List ℕ} {spans spans' : List AnnotationSpan} {stats : SolveStats} (b : Bounds) (a : Drafted)
     → Recorded (start_of b a).capacity (start_of b a).chosen plans texts bytes output output' (counts_first a) stats spans spans' (start_of b a).walk → WroteOf plans texts bytes output output' spans spans' a
-wrote b (Drawing d) y = y.written (omega arith)
-wrote b (Denied m needed k) y = ((y.none refl).0, (y.none refl).2)
+wrote b (Ok d) y = y.written (omega arith)
+wrote b (Err e) y = ((y.none refl).0, (y.none refl).2)
 
 module _ {n : ℕ} {before : SharedRecord} {b : Bounds} {plans texts : List Row} {bytes visit depth output : List ℕ} {spans : List AnnotationSpan} where
-  some_words : (d : Draft) → Deliverable n before b (Drawing d) plans texts bytes visit depth output spans → 0 < length visit
+  some_words : (d : Draft) → Deliverable n before b (Ok d) plans texts bytes visit depth output spans → 0 < length visit
   some_words d x = omega (arith, x.by.1.visit_lent, some_visit (capacity b) (chosen d plans texts bytes) (drawn_passes x.by.0))
 
   pub rooted : (a : Drafted) → Deliverable n before b a plans texts bytes visit depth output spans → Rooted a visit
-  rooted (Drawing d) x = record { by = some_words d x }
-  rooted (Denied m needed k) x = record { by = tt }
+  rooted (Ok d) x = record { by = some_words d x }
+  rooted (Err e) x = record { by = tt }
 
   pub begun : (a : Drafted) → Deliverable n before b a plans texts bytes visit depth output spans
       → Begun (start_of b a).capacity (start_of b a).chosen plans texts bytes (start_words a visit) depth output (counts_first a) spans (start_of b a).walk
-  begun (Drawing d) x = record {
+  begun (Ok d) x = record {
     ready = λ p. record {
       in_use = record { plans_lent = x.by.0.plans_in; texts_lent = x.by.0.texts_in; bytes_lent = x.by.0.bytes_in };
       lent = record {
@@ -65,15 +64,15 @@ module _ {n : ℕ} {before : SharedRecord} {b : Bounds} {plans texts : List Row}
     };
     uncounted = λ p. x.by.0.unvisited;
   }
-  begun (Denied m needed k) x = record { ready = λ p. absurd (omega (arith, p)); uncounted = λ p. absurd (omega (arith, p)) }
+  begun (Err e) x = record { ready = λ p. absurd (omega (arith, p)); uncounted = λ p. absurd (omega (arith, p)) }
 
   -- ---- once the second pass has ended
 
   module _ {output' : List ℕ} {spans' : List AnnotationSpan} {stats : SolveStats} where
     counted : (a : Drafted) → Deliverable n before b a plans texts bytes visit depth output spans
         → Recorded (start_of b a).capacity (start_of b a).chosen plans texts bytes output output' (counts_first a) stats spans spans' (start_of b a).walk → stats ≡ counts_last a
-    counted (Drawing d) x y = y.visits_are (omega arith) (drawn_passes x.by.0) ∙ last_counts d x.by.0
-    counted (Denied m needed k) x y = (y.none refl).1
+    counted (Ok d) x y = y.visits_are (omega arith) (drawn_passes x.by.0) ∙ last_counts d x.by.0
+    counted (Err e) x y = (y.none refl).1
 
     -- what `settle` asks
     pub settles : (a : Drafted) → Deliverable n before b a plans texts bytes visit depth output spans

@@ -1,11 +1,13 @@
 -- What the call promises (document 01, "Calls"; document 02, change 8), where the caller lends the shared record and the span records.
-use Rattle.std.specs.Prelude.{◌≡◌, List, map, ℕ, take}
+use Rattle.std.specs.Prelude.{◌≡◌, Result, Ok, Err, List, map, ℕ, take}
+use Rattle.cost.specs.declared.ConsumerCost.{ConsumerCost}
 use Rattle.cost.specs.Value.{value}
 use Rattle.machine.specs.Events.{with_needs}
 use Rattle.machine.specs.Answer.{Answer, paged, refused}
 use Rattle.stats.specs.declared.SolveStats.{SolveStats}
 use Rattle.spans.specs.declared.AnnotationSpan.{AnnotationSpan}
 use Rattle.solve_workspace.specs.declared.Bounds.{Bounds}
+use Rattle.solve_workspace.specs.declared.Needs.{Needs}
 use Rattle.solve_workspace.specs.declared.RenderOptions.{RenderOptions}
 use Rattle.solve_workspace.specs.Meets.{tally, needs_told}
 use Rattle.records.specs.Records.{span_in}
@@ -13,24 +15,35 @@ use Rattle.render.specs.declared.order.Lengths.{Lengths}
 use Rattle.render.specs.Rendered.{Front}
 use Rattle.desks.specs.declared.SharedRecord.{SharedRecord}
 use Rattle.desks.specs.Calls.{DeskRight}
-use Rattle.printer.specs.declared.Outcome.{Outcome}
-use Rattle.printer.specs.declared.Outcome.TheVariants.{Page, Refused}
+use Rattle.printer.specs.declared.PrintedPage.{PrintedPage}
+use Rattle.printer.specs.declared.Unprinted.{Unprinted}
+
+-- what a call answers
+abbrev pub Outcome : Type 0
+Outcome = Result PrintedPage Unprinted
+
+-- a page and a refusal, by their parts
+abbrev pub printed_with : ConsumerCost → ℕ → ℕ → Needs → PrintedPage
+printed_with c n m q = record { cost = c; length = n; spans = m; needs = q }
+
+abbrev pub unprinted_with : ℕ → ℕ → Unprinted
+unprinted_with n needed = record { number = n; needed = needed }
 
 -- ---- what an answer says
 
 -- document 01's answer. A page: its bytes are the first of the output, its spans the first of the records, its cost, and its needs; a refusal: number and needed size. Both with the counts in the lent record
 abbrev pub answered : Outcome → SolveStats → List ℕ → List AnnotationSpan → Answer
-answered (Page c n m q) stats output spans = paged (record { bytes = take n output; spans = map span_in (take m spans); cost = value c }) (with_needs (tally stats) (needs_told q))
-answered (Refused n needed) stats output spans = refused n needed (tally stats)
+answered (Ok p) stats output spans = paged (record { bytes = take p.length output; spans = map span_in (take p.spans spans); cost = value p.cost }) (with_needs (tally stats) (needs_told p.needs))
+answered (Err e) stats output spans = refused e.number e.needed (tally stats)
 
 -- bytes and spans that a page has; a refusal has none
 abbrev pub bytes_of : Outcome → ℕ
-bytes_of (Page c n m q) = n
-bytes_of (Refused n needed) = 0
+bytes_of (Ok p) = p.length
+bytes_of (Err e) = 0
 
 abbrev pub spans_of : Outcome → ℕ
-spans_of (Page c n m q) = m
-spans_of (Refused n needed) = 0
+spans_of (Ok p) = p.spans
+spans_of (Err e) = 0
 
 -- ---- the whole call
 

@@ -19,20 +19,24 @@ use solve_workspace::{Bounds, Needs, RenderOptions};
 use spans::AnnotationSpan;
 use stats::SolveStats;
 
-// What a call answers; its counts stand in the lent record. A page comes with the sizes that just suffice for it. Where a size is too small, `needed` is the size that is needed there; else it is 0.
+// A page that stands in the caller's memory, with the sizes that just suffice for it. Its counts, as those of a refusal, stand in the lent record.
 #[derive(Clone, Copy)]
-pub enum Outcome {
-    Page {
-        cost: ConsumerCost,
-        length: usize,
-        spans: usize,
-        needs: Needs,
-    },
-    Refused {
-        number: u32,
-        needed: u64,
-    },
+pub struct PrintedPage {
+    pub cost: ConsumerCost,
+    pub length: usize,
+    pub spans: usize,
+    pub needs: Needs,
 }
+
+// Why there is no page. Where a size is too small, `needed` is the size that is needed there; else it is 0.
+#[derive(Clone, Copy)]
+pub struct Unprinted {
+    pub number: u32,
+    pub needed: u64,
+}
+
+// What a call answers.
+pub type Outcome = Result<PrintedPage, Unprinted>;
 
 // What the second pass begins with.
 #[derive(Clone, Copy)]
@@ -47,12 +51,8 @@ fn counts_of(a: Drafted) -> SolveStats
     ensures { result ≡ counts_first a }
 {
     match a {
-        Drafted::Page(d) => d.stats,
-        Drafted::Refused {
-            number,
-            needed,
-            stats,
-        } => stats,
+        Ok(d) => d.stats,
+        Err(e) => e.stats,
     }
 }
 
@@ -60,24 +60,16 @@ fn outcome_of(a: Drafted) -> Outcome
     ensures { result ≡ outcome a }
 {
     match a {
-        Drafted::Page(d) => {
-            let cost = d.cost;
-            let needs = d.needs;
-            Outcome::Page {
-                cost: cost,
-                length: d.length,
-                spans: d.spans,
-                needs: needs,
-            }
-        }
-        Drafted::Refused {
-            number,
-            needed,
-            stats,
-        } => Outcome::Refused {
-            number: number,
-            needed: needed,
-        },
+        Ok(d) => Ok(PrintedPage {
+            cost: d.cost,
+            length: d.length,
+            spans: d.spans,
+            needs: d.needs,
+        }),
+        Err(e) => Err(Unprinted {
+            number: e.number,
+            needed: e.needed,
+        }),
     }
 }
 
@@ -88,27 +80,18 @@ fn begin_page(a: Drafted, b: Bounds, visit: &mut [usize]) -> Start
 {
     let capacity = capacity_of(b);
     match a {
-        Drafted::Page(d) => {
-            let root = d.root;
-            let number = root.0;
-            let walk = begin_walk(visit, PlanId(number));
-            Start {
-                capacity: capacity,
-                chosen: Chosen {
-                    root: root,
-                    plans: d.plans,
-                    texts: d.texts,
-                    bytes: d.bytes,
-                },
-                walk: walk,
-            }
-        }
-        Drafted::Refused {
-            number,
-            needed,
-            stats,
-        } => Start {
-            capacity: capacity,
+        Ok(d) => Start {
+            capacity,
+            chosen: Chosen {
+                root: d.root,
+                plans: d.plans,
+                texts: d.texts,
+                bytes: d.bytes,
+            },
+            walk: begin_walk(visit, d.root),
+        },
+        Err(_) => Start {
+            capacity,
             chosen: Chosen {
                 root: PlanId(0),
                 plans: 0,
@@ -131,8 +114,7 @@ fn settle(desk: u32, a: Drafted, stats: SolveStats, shared: &mut SharedRecord) -
     requires { stats.work_items ≤ remaining shared.old.desks desk }
     ensures { (result ≡ outcome a) × (shared.new ≡ settled shared.old desk stats) }
 {
-    let s = *shared;
-    *shared = settled(s, desk, stats);
+    *shared = settled(*shared, desk, stats);
     outcome_of(a)
 }
 
@@ -188,10 +170,9 @@ pub fn render(
 ) -> Outcome
     ensures { Printed desk shared.old file.now options b (lengths nodes.old edges.old choices.old texts.old bytes.old tasks.old results.old pending.old index.old entries.old kept.old frontier.old plans.old visit.old depth.old output.old spans.old) output.old output.new spans.old spans.new shared.new result }
 {
-    let s = *shared;
     let a = plan_for(
         desk,
-        s.desks,
+        shared.desks,
         file,
         options,
         b,

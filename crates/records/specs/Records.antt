@@ -6,8 +6,8 @@ use Rattle.layout.specs.Spans.{Span}
 use Rattle.stats.specs.declared.SolveStats.{SolveStats}
 use Rattle.stats.specs.Counts.{counts}
 use Rattle.spans.specs.declared.AnnotationSpan.{AnnotationSpan}
-use Rattle.spans.specs.declared.Parent.{Parent}
-use Rattle.spans.specs.declared.Parent.TheVariants.{Nothing as Outside, Span as Inside}
+use Rattle.std.specs.Prelude.{Option as Optional, Some as Inside, None as Outside}
+use Rattle.spans.specs.declared.SpanId.{SpanId}
 use Rattle.spans.specs.Spans.{open_span, close_span, parent_from, blank}
 use Rattle.materialize.specs.declared.Mark.{Mark}
 use Rattle.materialize.specs.declared.Mark.TheVariants.{Nothing, Open, Close}
@@ -27,7 +27,7 @@ recorded (Open n k at up) l = set l n (open_span k at (parent_from up))
 recorded (Close n at) l = set l n (close_span (get_or l n blank) at)
 
 -- a span record in the rule's words, and as a row of words
-abbrev pub parent_in : Parent → Option ℕ
+abbrev pub parent_in : Optional SpanId → Option ℕ
 parent_in Outside = none
 parent_in (Inside s) = some s.0
 

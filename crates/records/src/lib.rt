@@ -18,12 +18,8 @@ fn put_mark(mark: Mark, spans: &mut [AnnotationSpan])
 {
     match mark {
         Mark::Nothing => {}
-        Mark::Open(n, annotation, at, up) => {
-            open_span(spans, n, annotation, at, parent_of(up));
-        }
-        Mark::Close(n, at) => {
-            close_span(spans, n, at);
-        }
+        Mark::Open(n, annotation, at, up) => open_span(spans, n, annotation, at, parent_of(up)),
+        Mark::Close(n, at) => close_span(spans, n, at),
     }
 }
 
@@ -54,6 +50,7 @@ pub fn write_records(
     ensures { Recorded capacity chosen plans.now texts.now bytes.now output.old output.new stats.old stats.new spans.old spans.new start }
 {
     let mut w = start;
+    // A while loop: the stack of what is still to visit grows and shrinks, so there is no range to go over.
     while 0 < w.top {
         let s = turn_within(
             capacity, chosen, w, plans, texts, bytes, visit, depth, output,

@@ -1,4 +1,5 @@
 -- What an answer of the reader leads to: memory that holds the tables of an accepted file, and the answer of the call.
+use Rattle.std.specs.Prelude.{Ok, Err}
 use mathlib.Core.Path.{◌≡◌, sym, ap, ◌∙◌, subst}
 use mathlib.Core.List.{List}
 use Prim.Native.Nat.{ℕ}
@@ -10,9 +11,7 @@ use Rattle.file_form.specs.Form.{tables_of, counts_of, Holds}
 use Rattle.file_encode.specs.Encode.{lengths}
 use Rattle.file_encode.specs.Fields.{Bytes}
 use Rattle.file_encode.specs.Trips.{encoded}
-use Rattle.prepare.specs.declared.read.Answer.{Answer as FileAnswer}
-use Rattle.prepare.specs.declared.read.Answer.TheVariants.{Accepted, Refused}
-use Rattle.prepare.specs.File.{Means, Reads, order, refused, accepted}
+use Rattle.prepare.specs.File.{Answer as FileAnswer, Means, Reads, order, refused, accepted}
 use Rattle.prepare.specs.Laws.{accepted_well, lent_at}
 use Rattle.prepare.proofs.Reading.{held_is}
 use Rattle.machine.specs.Events.{no_counts}
@@ -23,16 +22,15 @@ use Rattle.solve_workspace.specs.declared.RenderOptions.{RenderOptions}
 use Rattle.solve_workspace.specs.Meets.{limits}
 use Rattle.solve_workspace.specs.Reading.{rules, prepared}
 use Rattle.materialize.specs.Rows.{Row}
-use Rattle.render.specs.declared.page.Rendered.{Rendered}
 use Rattle.render.specs.declared.order.Lengths.{Lengths}
 use Rattle.render.specs.Order.{InOrder}
-use Rattle.render.specs.Rendered.{meant}
+use Rattle.render.specs.Rendered.{Rendered, meant}
 use Rattle.render.specs.Call.{settings, Readied, Laid, tables_held, Holding}
 use Rattle.render.proofs.Readiness.{file_readied}
 
 -- what an acceptance leaves
 record Left (s : List ℕ) (n : Counts) (nodes : List (List ℕ)) (edges choices : List ℕ) (texts : List (List ℕ)) (bytes : List ℕ) : Type 0 where
-  means : Means s (Accepted (counts_of s))
+  means : Means s (Ok (counts_of s))
   counts : counts_of s ≡ n
   holds : Holds (tables_of s) (counts_of s) nodes edges choices texts bytes
 
@@ -40,13 +38,13 @@ in_order : {o : RenderOptions} {b : Bounds} {l : Lengths} → InOrder o b l → 
 in_order i = record { wide = i.options.width; policy_known = i.options.policy; rule_known = i.options.rule; lent_enough = i }
 
 module _ (s : List ℕ) (lent : Type 0) (nodes : List (List ℕ)) (edges choices : List ℕ) (texts : List (List ℕ)) (bytes : List ℕ) where
-  left : {a : FileAnswer} (n : Counts) → Reads s lent nodes edges choices texts bytes a → a ≡ Accepted n → Left s n nodes edges choices texts bytes
+  left : {a : FileAnswer} (n : Counts) → Reads s lent nodes edges choices texts bytes a → a ≡ Ok n → Left s n nodes edges choices texts bytes
   left n (order f) e = let z : ◌≡◌ {A = ℕ} 0 1 = cc in absurd (omega arith)
   left n (refused k l m) e = let z : ◌≡◌ {A = ℕ} 0 1 = cc in absurd (omega arith)
   left n (accepted l m h) e = record { means = m; counts = cc; holds = h }
 
   -- memory is as long as the counts of the file, and ready for solver and materializer
-  held_ready : Bytes s → Means s (Accepted (counts_of s)) → Holds (tables_of s) (counts_of s) nodes edges choices texts bytes → Holding (counts_of s) nodes edges choices texts bytes
+  held_ready : Bytes s → Means s (Ok (counts_of s)) → Holds (tables_of s) (counts_of s) nodes edges choices texts bytes → Holding (counts_of s) nodes edges choices texts bytes
   held_ready z m h =
       let e = encoded s z (accepted_well m).0 in
       let l = lent_at s nodes edges choices texts bytes e h in
@@ -60,16 +58,16 @@ module _ (s : List ℕ) (lent : Type 0) (nodes : List (List ℕ)) (edges choices
         readied = subst Readied (sym (held_is s nodes edges choices texts bytes h)) (file_readied s z m);
       }
 
-  pub holding : {a : FileAnswer} (n : Counts) → Bytes s → Reads s lent nodes edges choices texts bytes a → a ≡ Accepted n → Holding n nodes edges choices texts bytes
+  pub holding : {a : FileAnswer} (n : Counts) → Bytes s → Reads s lent nodes edges choices texts bytes a → a ≡ Ok n → Holding n nodes edges choices texts bytes
   holding n z g e = let l = left n g e in subst (λ (k : Counts). Holding k nodes edges choices texts bytes) l.counts (held_ready z l.means l.holds)
 
   -- the tables that the reader leaves are those of the file
-  pub held_tables : {a : FileAnswer} (n : Counts) → Reads s lent nodes edges choices texts bytes a → a ≡ Accepted n → tables_held n nodes edges choices texts bytes ≡ tables_of s
+  pub held_tables : {a : FileAnswer} (n : Counts) → Reads s lent nodes edges choices texts bytes a → a ≡ Ok n → tables_held n nodes edges choices texts bytes ≡ tables_of s
   held_tables n g e = let l = left n g e in subst (λ (k : Counts). tables_held k nodes edges choices texts bytes ≡ tables_of s) l.counts (held_is s nodes edges choices texts bytes l.holds)
 
   module _ {o : RenderOptions} {b : Bounds} {l : Lengths} (i : InOrder o b l) {a : FileAnswer} (g : Reads s lent nodes edges choices texts bytes a) where
     -- an accepted file: the answer of solver and materializer on what the reader left
-    pub laid_answers : (n : Counts) → a ≡ Accepted n → {output₀ output : List ℕ} {rows₀ rows : List Row} {r : Rendered}
+    pub laid_answers : (n : Counts) → a ≡ Ok n → {output₀ output : List ℕ} {rows₀ rows : List Row} {r : Rendered}
         → Laid b (rules o) (prepared (tables_held n nodes edges choices texts bytes)) output₀ output rows₀ rows r
         → Answers (InOrder o b l) s (settings o) (limits b) (meant r output rows)
     laid_answers n e d =
@@ -78,10 +76,10 @@ module _ (s : List ℕ) (lent : Type 0) (nodes : List (List ℕ)) (edges choices
         (laid_out (in_order i) (left n g e).means)
 
     -- a refused one
-    pub refused_answers : lent → (k : ℕ) → a ≡ Refused k → Answers (InOrder o b l) s (settings o) (limits b) (refusal k 0 no_counts)
+    pub refused_answers : lent → (k : ℕ) → a ≡ Err k → Answers (InOrder o b l) s (settings o) (limits b) (refusal k 0 no_counts)
     refused_answers h k e = go g e
       where
-        go : {x : FileAnswer} → Reads s lent nodes edges choices texts bytes x → x ≡ Refused k → Answers (InOrder o b l) s (settings o) (limits b) (refusal k 0 no_counts)
+        go : {x : FileAnswer} → Reads s lent nodes edges choices texts bytes x → x ≡ Err k → Answers (InOrder o b l) s (settings o) (limits b) (refusal k 0 no_counts)
         go (order f) q = absurd (f h)
         go (refused j y m) q = let p : j ≡ k = cc in subst (λ (v : ℕ). Answers (InOrder o b l) s (settings o) (limits b) (refusal v 0 no_counts)) p (wrong_file j (in_order i) m)
         go (accepted y m w) q = let z : ◌≡◌ {A = ℕ} 0 1 = cc in absurd (omega arith)

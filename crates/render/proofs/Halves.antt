@@ -1,4 +1,5 @@
 -- Laws for the first half of a promise.
+use Rattle.std.specs.Prelude.{Ok, Err}
 use mathlib.Core.Path.{◌≡◌, refl, sym, subst}
 use mathlib.Core.List.{List, []}
 use Prim.Native.Nat.{ℕ, zero, suc, ◌≤◌}
@@ -6,31 +7,28 @@ use native.Mathlib.Omega.{arith}
 use lib.ListN.{length, take}
 use lib.Seq.{length-take-le, take-take, get_or-take}
 use Rattle.plan.specs.Arena.{arena}
-use Rattle.stats.specs.declared.SolveStats.{SolveStats}
 use Rattle.solve_workspace.specs.declared.Bounds.{Bounds}
 use Rattle.solve_workspace.specs.Meets.{limits, tally}
 use Rattle.materialize.specs.Rows.{Row}
 use Rattle.materialize.specs.Texts.{layout, InBytes, Planned}
 use Rattle.materialize.specs.Walks.{Around, plan, Answered}
 use Rattle.materialize.specs.Writes.{Passes}
-use Rattle.materialize.specs.declared.Measured.TheVariants.{Page as Fitting}
-use Rattle.render.specs.declared.page.Rendered.{Rendered}
-use Rattle.render.specs.declared.page.Rendered.TheVariants.{Refused as Denied}
+use Rattle.materialize.specs.Answer.{measured_with}
+use Rattle.render.specs.declared.page.Refusal.{Refusal}
 use Rattle.render.specs.declared.page.Draft.{Draft}
-use Rattle.render.specs.declared.page.Drafted.{Drafted}
-use Rattle.render.specs.declared.page.Drafted.TheVariants.{Page, Refused}
-use Rattle.render.specs.Drafts.{capacity, chosen, page_of, Drawn, Promise, Pledged, Half}
+use Rattle.render.specs.Rendered.{Rendered}
+use Rattle.render.specs.Drafts.{Drafted, capacity, chosen, page_of, Drawn, Promise, Pledged, Half}
 
 -- ---- by what is answered
 
 module _ {G : Promise} {b : Bounds} {P X : List Row} {B : List ℕ} (r : Drafted) (h : Half G b P X B r) where
-  pub half_refused : {n x : ℕ} {k : SolveStats} → r ≡ Refused n x k → (out : List ℕ) (rows : List Row) → G out out rows rows (Denied n x k)
+  pub half_refused : {q : Refusal} → r ≡ Err q → (out : List ℕ) (rows : List Row) → G out out rows rows (Err q)
   half_refused e = (subst (λ (y : Drafted). Half G b P X B y) e h).by
 
-  pub half_drawn : {d : Draft} → r ≡ Page d → Drawn b d P X B
+  pub half_drawn : {d : Draft} → r ≡ Ok d → Drawn b d P X B
   half_drawn e = (subst (λ (y : Drafted). Half G b P X B y) e h).by.0
 
-  pub half_pledged : {d : Draft} → r ≡ Page d → Pledged G (chosen d P X B) (page_of d)
+  pub half_pledged : {d : Draft} → r ≡ Ok d → Pledged G (chosen d P X B) (page_of d)
   half_pledged e = (subst (λ (y : Drafted). Half G b P X B y) e h).by.1
 
 -- what passes every limit may be written, in its own number of visits
@@ -41,8 +39,8 @@ drawn_passes {b} {d} h = let o : Around = record { bounds = limits b; counts = t
 
 pub half_map : {G H : Promise} {b : Bounds} {P X : List Row} {B : List ℕ} (r : Drafted) → ((out₀ out : List ℕ) (rows₀ rows : List Row) (a : Rendered) → G out₀ out rows₀ rows a → H out₀ out rows₀ rows a)
     → Half G b P X B r → Half H b P X B r
-half_map (Refused n x k) f h = record { by = λ out rows. f out out rows rows (Denied n x k) (h.by out rows) }
-half_map (Page d) f h = record { by = (h.by.0, record { by = λ out₀ out rows₀ rows lo lr w. f out₀ out rows₀ rows (page_of d) (h.by.1.by out₀ out rows₀ rows lo lr w) }) }
+half_map (Err e) f h = record { by = λ out rows. f out out rows rows (Err e) (h.by out rows) }
+half_map (Ok d) f h = record { by = (h.by.0, record { by = λ out₀ out rows₀ rows lo lr w. f out₀ out rows₀ rows (page_of d) (h.by.1.by out₀ out rows₀ rows lo lr w) }) }
 
 module _ (X : List Row) (B : List ℕ) (x y : ℕ) (lx : x ≤ length X) (ly : y ≤ length B) where
   moved : (K : List Row → List ℕ → Type 0) (t u : ℕ) → t ≤ length (take x X) → u ≤ length (take y B) → K (take t (take x X)) (take u (take y B)) → K (take t X) (take u B)
@@ -61,14 +59,14 @@ module _ (X : List Row) (B : List ℕ) (x y : ℕ) (lx : x ≤ length X) (ly : y
     small = h.small;
     highest = h.highest;
     deepest = h.deepest;
-    measured = moved (λ (X : List Row) (B : List ℕ). Answered (capacity b) (plan (take d.plans P) X B d.root.0) (Fitting d.length d.spans d.visits h.highest h.deepest)) d.texts d.bytes h.texts_in h.bytes_in h.measured;
+    measured = moved (λ (X : List Row) (B : List ℕ). Answered (capacity b) (plan (take d.plans P) X B d.root.0) (Ok (measured_with d.length d.spans d.visits h.highest h.deepest))) d.texts d.bytes h.texts_in h.bytes_in h.measured;
     unvisited = h.unvisited;
     no_fit_checks = h.no_fit_checks;
   }
 
   pub half_whole : {G : Promise} {b : Bounds} {P : List Row} (r : Drafted) → Half G b P (take x X) (take y B) r → Half G b P X B r
-  half_whole (Refused n z k) h = record { by = h.by }
-  half_whole {G} {b} {P} (Page d) h = record {
+  half_whole (Err e) h = record { by = h.by }
+  half_whole {G} {b} {P} (Ok d) h = record {
     by = (
       drawn_whole d h.by.0,
       moved (λ (X : List Row) (B : List ℕ). Pledged G (plan (take d.plans P) X B d.root.0) (page_of d)) d.texts d.bytes h.by.0.texts_in h.by.0.bytes_in h.by.1,

@@ -1,4 +1,5 @@
 -- Laws for the page of the chosen plan.
+use Rattle.std.specs.Prelude.{Ok, Err}
 use mathlib.Core.Path.{◌≡◌, refl, sym, ap, ap₂, ◌∙◌, subst}
 use mathlib.Core.Option.{Option, none, some}
 use mathlib.Core.List.{List, [], ◌∷◌, ◌++◌, map}
@@ -25,20 +26,16 @@ use Rattle.solve_workspace.specs.Rows.{low}
 use Rattle.solve_workspace.specs.Words.{low_is}
 use Rattle.materialize.specs.Rows.{Row, row_of, parent_word, span_rows, Fits}
 use Rattle.materialize.specs.Texts.{layout, InBytes, Planned}
-use Rattle.materialize.specs.Answer.{why_of, with_visits, told, over, Small, Lent}
+use Rattle.materialize.specs.Answer.{Measured, measured_with, passed_with, why_of, with_visits, told, over, Small, Lent}
 use Rattle.materialize.specs.Walks.{ran, plan, Answered}
 use Rattle.materialize.specs.Writes.{Passes}
 use Rattle.materialize.proofs.Moves.{spans_length}
 use Rattle.materialize.specs.declared.Capacity.{Capacity}
 use Rattle.materialize.specs.declared.Exhausted.{Exhausted}
-use Rattle.materialize.specs.declared.Measured.{Measured}
-use Rattle.materialize.specs.declared.Measured.TheVariants.{Page as Fitting, Refused as Lacking}
 use Rattle.solve.specs.declared.SolvedCore.{SolvedCore}
 use Rattle.solve.specs.Outcome.{solver_needs, Arranged}
-use Rattle.render.specs.declared.page.Rendered.TheVariants.{Page as Printed, Refused as Denied}
-use Rattle.render.specs.declared.page.Drafted.{Drafted}
-use Rattle.render.specs.Rendered.{parent_of, span_of, Front, with_counts}
-use Rattle.render.specs.Drafts.{capacity, Promise, Pledged, Half, page_needs, drafted, Paged}
+use Rattle.render.specs.Rendered.{page_with, refusal_with, parent_of, span_of, Front, with_counts}
+use Rattle.render.specs.Drafts.{Drafted, capacity, Promise, Pledged, Half, page_needs, drafted, Paged}
 use Rattle.render.proofs.Halves.{cut_planned, cut_plan}
 
 -- ---- spans are read back from their rows
@@ -108,17 +105,17 @@ module _ (b : Bounds) (c : SolvedCore) (z : c.stats.visits ≡ 0) (p : Plan) whe
   answered o e = ap answer_of (ap (λ (x : Out (Unit {0})). and_then (limits b) x (λ _. ret sheet)) (sym e) ∙ sym (run_bind (limits b) start (materialize p) (λ _. ret sheet)))
 
   -- a size or a limit that is passed
-  lacking : (e : Exhausted) (needed v : ℕ) → Answered (capacity b) p (Lacking e needed v) → (out : List ℕ) (rows : List Row) → Paged b c p out out rows rows (Denied (number (why_of e)) needed (with_counts c.stats v))
+  lacking : (e : Exhausted) (needed v : ℕ) → Answered (capacity b) p (Err (passed_with e needed v)) → (out : List ℕ) (rows : List Row) → Paged b c p out out rows rows (Err (refusal_with (number (why_of e)) needed (with_counts c.stats v)))
   lacking e needed v h out rows = record {
-    is = answered _ (stops_with (limits b) start (materialize p) (why_of e) needed (with_visits start v) (ended (Lacking e needed v) h));
+    is = answered _ (stops_with (limits b) start (materialize p) (why_of e) needed (with_visits start v) (ended (Err (passed_with e needed v)) h));
     stands = record { output_is = unaltered out out refl; rows_are = unaltered rows rows refl; fitting = λ j k. absurd (omega (arith, k)); no_fit_checks = refl };
   }
 
   -- ---- a page: what it needs
 
-  module _ (n k v x y : ℕ) (h : Answered (capacity b) p (Fitting n k v x y)) (w : Small (capacity b)) where
+  module _ (n k v x y : ℕ) (h : Answered (capacity b) p (Ok (measured_with n k v x y))) (w : Small (capacity b)) where
     whole_run : run (limits b) start (materialize p) ≡ done (with_needs (with_visits start v) (needs_after start.needs (materialize p))) tt
-    whole_run = ends_with (limits b) start (with_visits start v) (materialize p) tt (ended (Fitting n k v x y) h)
+    whole_run = ends_with (limits b) start (with_visits start v) (materialize p) tt (ended (Ok (measured_with n k v x y)) h)
 
     most : (i : Kind) → peak i (materialize p) ≤ size (limits b) i
     most = passes_sizes (limits b) start (materialize p) (done_passes (limits b) start (materialize p) whole_run)
@@ -145,7 +142,7 @@ module _ (b : Bounds) (c : SolvedCore) (z : c.stats.visits ≡ 0) (p : Plan) whe
         rw (e1, e2, e3, e4, e5, e6, e7, e8, e9, l6, l7, l8, l9)
 
     -- a page, once it is written
-    fitting : Pledged (Paged b c p) p (Printed c.cost n k (with_counts c.stats v) (page_needs c.needs n k x y))
+    fitting : Pledged (Paged b c p) p (Ok (page_with c.cost n k (with_counts c.stats v) (page_needs c.needs n k x y)))
     fitting = record {
       by = λ out₀ out rows₀ rows lo lr w.
           let ke : k ≡ length (span_rows p) = h.sized.1 ∙ sym (length-map (spans p) row_of) in
@@ -191,10 +188,10 @@ module _ (b : Bounds) (c : SolvedCore) (P X : List Row) (B : List ℕ) (a : Arra
   whole K k = subst (λ (l : List ℕ). K (take (length X) X) l) (sym (take-length B)) (subst (λ (l : List Row). K l B) (sym (take-length X)) k)
 
   half_of : Small (capacity b) → (m : Measured) → Answered (capacity b) cut m → Half goal b P X B (drafted c (length X) (length B) m)
-  half_of small (Lacking e needed v) h = record {
-    by = λ out rows. subst (λ (p : Plan). Paged b c p out out rows rows (Denied (number (why_of e)) needed (with_counts c.stats v))) goal_is (lacking b c z cut e needed v h out rows);
+  half_of small (Err e) h = record {
+    by = λ out rows. subst (λ (p : Plan). Paged b c p out out rows rows (Err (refusal_with (number (why_of e.what)) e.needed (with_counts c.stats e.visits)))) goal_is (lacking b c z cut e.what e.needed e.visits h out rows);
   }
-  half_of small (Fitting n k v x y) h = record {
+  half_of small (Ok m) h = record {
     by = (
       record {
         plans_in = a.lent;
@@ -203,14 +200,14 @@ module _ (b : Bounds) (c : SolvedCore) (P X : List Row) (B : List ℕ) (a : Arra
         planned = whole (λ (X : List Row) (B : List ℕ). Planned (take c.plans P) (length (take c.plans P)) X root) planned;
         inside = whole (λ (X : List Row) (B : List ℕ). InBytes X B) i;
         small = small;
-        highest = x;
-        deepest = y;
-        measured = whole (λ (X : List Row) (B : List ℕ). Answered (capacity b) (plan (take c.plans P) X B root) (Fitting n k v x y)) h;
+        highest = m.visit;
+        deepest = m.depth;
+        measured = whole (λ (X : List Row) (B : List ℕ). Answered (capacity b) (plan (take c.plans P) X B root) (Ok m)) h;
         unvisited = refl;
         no_fit_checks = refl;
       },
-      whole (λ (X : List Row) (B : List ℕ). Pledged goal (plan (take c.plans P) X B root) (Printed c.cost n k (with_counts c.stats v) (page_needs c.needs n k x y)))
-          (subst (λ (p : Plan). Pledged (Paged b c p) cut (Printed c.cost n k (with_counts c.stats v) (page_needs c.needs n k x y))) goal_is (fitting b c z cut n k v x y h small)),
+      whole (λ (X : List Row) (B : List ℕ). Pledged goal (plan (take c.plans P) X B root) (Ok (page_with c.cost m.bytes m.spans (with_counts c.stats m.visits) (page_needs c.needs m.bytes m.spans m.visit m.depth))))
+          (subst (λ (p : Plan). Pledged (Paged b c p) cut (Ok (page_with c.cost m.bytes m.spans (with_counts c.stats m.visits) (page_needs c.needs m.bytes m.spans m.visit m.depth)))) goal_is (fitting b c z cut m.bytes m.spans m.visits m.visit m.depth h small)),
     );
   }
 

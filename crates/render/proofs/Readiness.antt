@@ -1,4 +1,5 @@
 -- The tables of an accepted file are such as the solver and the materializer work on.
+use Rattle.std.specs.Prelude.{Ok}
 use mathlib.Core.Path.{◌≡◌, refl, ap}
 use mathlib.Core.Logic.{by_cases}
 use mathlib.Core.List.{List, []}
@@ -14,7 +15,6 @@ use Rattle.file_encode.specs.Fields.{Bytes}
 use Rattle.file_encode.specs.Trips.{encoded, tables_right, texts_inside}
 use Rattle.file_checks.specs.References.{References}
 use Rattle.file_checks.specs.Judged.{tables}
-use Rattle.prepare.specs.declared.read.Answer.TheVariants.{Accepted}
 use Rattle.prepare.specs.File.{Means}
 use Rattle.prepare.specs.Laws.{accepted_well}
 use Rattle.machine_input.specs.Reading.{node_of_kind, node_of_row, prepared}
@@ -62,7 +62,7 @@ module _ (t : Tables) where
 
 -- ---- of a file
 
-pub file_readied : (s : List ℕ) → Bytes s → {n : Counts} → Means s (Accepted n) → Readied (tables_of s)
+pub file_readied : (s : List ℕ) → Bytes s → {n : Counts} → Means s (Ok n) → Readied (tables_of s)
 file_readied s z m =
     let a = accepted_well m in
     let e = encoded s z a.0 in

@@ -1,4 +1,5 @@
 -- Laws for the whole call: from the right answer, and what stands in output and span rows, all that a call promises.
+use Rattle.std.specs.Prelude.{Ok, Err}
 use mathlib.Core.Path.{◌≡◌, refl, sym, subst}
 use mathlib.Core.List.{List}
 use Prim.Native.Nat.{ℕ, ◌≤◌}
@@ -7,9 +8,7 @@ use lib.ListN.{length, take}
 use lib.Seq.{length-take-le}
 use Rattle.file_encode.specs.Fields.{Bytes}
 use Rattle.file_form.specs.declared.fill.Counts.{Counts}
-use Rattle.prepare.specs.declared.read.Answer.{Answer as FileAnswer}
-use Rattle.prepare.specs.declared.read.Answer.TheVariants.{Accepted, Refused as FileRefused}
-use Rattle.prepare.specs.File.{Reads}
+use Rattle.prepare.specs.File.{Answer as FileAnswer, Reads}
 use Rattle.memo.specs.Sizes.{SlotsFor}
 use Rattle.machine.specs.Events.{Bounds as Limits, Counts as Tally, no_counts}
 use Rattle.machine.specs.Materializer.{Rendered as Sheet}
@@ -17,7 +16,7 @@ use Rattle.machine.specs.Answer.{Answer, paged, refused}
 use Rattle.answer.specs.Answer.{Answers}
 use Rattle.answer.specs.Demand.{only_page, needs_within, just_page, less_refused}
 use Rattle.answer.proofs.Demand.{promised}
-use Rattle.stats.specs.declared.SolveStats.{SolveStats}
+use Rattle.stats.specs.Counts.{none_counted}
 use Rattle.solve_workspace.specs.declared.Bounds.{Bounds}
 use Rattle.solve_workspace.specs.declared.RenderOptions.{RenderOptions}
 use Rattle.solve_workspace.specs.Meets.{limits}
@@ -25,15 +24,12 @@ use Rattle.solve_workspace.specs.Reading.{rules, prepared}
 use Rattle.materialize.specs.Rows.{Row}
 use Rattle.materialize.specs.Writes.{Written}
 use Rattle.solve.specs.Accepted.{MemoRoom}
-use Rattle.render.specs.declared.page.Rendered.{Rendered}
-use Rattle.render.specs.declared.page.Rendered.TheVariants.{Refused as Denied}
+use Rattle.render.specs.declared.page.Refusal.{Refusal}
 use Rattle.render.specs.declared.page.Draft.{Draft}
-use Rattle.render.specs.declared.page.Drafted.{Drafted}
-use Rattle.render.specs.declared.page.Drafted.TheVariants.{Page, Refused}
 use Rattle.render.specs.declared.order.Lengths.{Lengths}
 use Rattle.render.specs.Order.{InOrder}
-use Rattle.render.specs.Rendered.{meant, Stands}
-use Rattle.render.specs.Drafts.{chosen, page_of, Half, Writable}
+use Rattle.render.specs.Rendered.{Rendered, refusal_with, meant, Stands}
+use Rattle.render.specs.Drafts.{Drafted, chosen, page_of, Half, Writable}
 use Rattle.render.specs.Call.{settings, Rendering, Drafting, Laid, MemoHolding, tables_held}
 use Rattle.render.proofs.Ordered.{slots_single}
 use Rattle.render.proofs.Halves.{half_refused, half_drawn, half_pledged, half_map}
@@ -50,21 +46,6 @@ pub memo_room : {b : Bounds} {ss : List ℕ} {es : List Row} {n : ℕ} → MemoH
 memo_room {ss = ss} {n = n} h k = record { slots = rw (length-take-le n ss (slots_there h k)) k; entries = h.entries_in }
 
 -- ---- the whole promise
-
--- no counts
-abbrev pub none_counted : SolveStats
-none_counted = record {
-  work_items = 0;
-  fit_checks = 0;
-  memo_hits = 0;
-  memo_misses = 0;
-  candidates_generated = 0;
-  candidates_pruned = 0;
-  peak_frontier = 0;
-  memo_entries = 0;
-  plan_nodes = 0;
-  visits = 0;
-}
 
 module _ (file : List ℕ) (o : RenderOptions) (b : Bounds) (l : Lengths) (z : Bytes file) where
   rendering : (out₀ out : List ℕ) (rows₀ rows : List Row) (r : Rendered) → Answers (InOrder o b l) file (settings o) (limits b) (meant r out rows) → Stands r out₀ out rows₀ rows → Rendering file o b l out₀ out rows₀ rows r
@@ -83,31 +64,33 @@ module _ (file : List ℕ) (o : RenderOptions) (b : Bounds) (l : Lengths) (z : B
 
   -- ---- a refusal before the solver begins
 
-  refused_half : (n : ℕ) → Answers (InOrder o b l) file (settings o) (limits b) (refused n 0 no_counts) → {P X : List Row} {B : List ℕ} → Half (Rendering file o b l) b P X B (Refused n 0 none_counted)
-  refused_half n a = record {
-    by = λ out rows.
-        rendering out out rows rows (Denied n 0 none_counted) a
-        (record { output_is = unaltered out out refl; rows_are = unaltered rows rows refl; fitting = λ j h. absurd (omega (arith, h)); no_fit_checks = refl });
-  }
+  refused_half : (n : ℕ) → Answers (InOrder o b l) file (settings o) (limits b) (refused n 0 no_counts) → {P X : List Row} {B : List ℕ} {x : Refusal} → x ≡ refusal_with n 0 none_counted → Half (Rendering file o b l) b P X B (Err x)
+  refused_half n a e =
+      rw e
+      (record {
+        by = λ out rows.
+            rendering out out rows rows (Err (refusal_with n 0 none_counted)) a
+            (record { output_is = unaltered out out refl; rows_are = unaltered rows rows refl; fitting = λ j h. absurd (omega (arith, h)); no_fit_checks = refl });
+      })
 
   module _ {lent : Type 0} {nodes : List (List ℕ)} {edges choices : List ℕ} {texts : List (List ℕ)} {bytes : List ℕ} {a : FileAnswer} (i : InOrder o b l) (g : Reads file lent nodes edges choices texts bytes a) {P X : List Row} {B : List ℕ} where
     -- a file that the reader refuses
-    pub file_half : lent → (n : ℕ) → a ≡ FileRefused n → Half (Rendering file o b l) b P X B (Refused n 0 none_counted)
-    file_half h n e = refused_half n (refused_answers file lent nodes edges choices texts bytes i g h n e)
+    pub file_half : lent → (n : ℕ) → a ≡ Err n → {x : Refusal} → x ≡ refusal_with n 0 none_counted → Half (Rendering file o b l) b P X B (Err x)
+    file_half h n e f = refused_half n (refused_answers file lent nodes edges choices texts bytes i g h n e) f
 
     -- a file that it accepts
-    pub laid_half : (n : Counts) → a ≡ Accepted n → (r : Drafted) → Half (Laid b (rules o) (prepared (tables_held n nodes edges choices texts bytes))) b P X B r → Half (Rendering file o b l) b P X B r
+    pub laid_half : (n : Counts) → a ≡ Ok n → (r : Drafted) → Half (Laid b (rules o) (prepared (tables_held n nodes edges choices texts bytes))) b P X B r → Half (Rendering file o b l) b P X B r
     laid_half n e r h = half_map r (λ out₀ out rows₀ rows x d. rendering out₀ out rows₀ rows x (laid_answers file lent nodes edges choices texts bytes i g n e d) d.stands) h
 
   -- a call that is not in order
-  pub order_half : (InOrder o b l → ⊥) → {P X : List Row} {B : List ℕ} → Half (Rendering file o b l) b P X B (Refused 1 0 none_counted)
-  order_half h = refused_half 1 (order_answers file h)
+  pub order_half : (InOrder o b l → ⊥) → {P X : List Row} {B : List ℕ} {x : Refusal} → x ≡ refusal_with 1 0 none_counted → Half (Rendering file o b l) b P X B (Err x)
+  order_half h e = refused_half 1 (order_answers file h) e
 
 -- ---- the first half, and what comes after it
 
 module _ {file : List ℕ} {o : RenderOptions} {b : Bounds} {l : Lengths} {P X : List Row} {B : List ℕ} where
-  pub order_drafting : Bytes file → (InOrder o b l → ⊥) → Drafting file o b l P X B (Refused 1 0 none_counted)
-  order_drafting z h = record { half = order_half file o b l z h; lent = λ d e. let z : ◌≡◌ {A = ℕ} 0 1 = cc in absurd (omega arith) }
+  pub order_drafting : Bytes file → (InOrder o b l → ⊥) → {x : Refusal} → x ≡ refusal_with 1 0 none_counted → Drafting file o b l P X B (Err x)
+  order_drafting z h f = record { half = order_half file o b l z h f; lent = λ d e. let z : ◌≡◌ {A = ℕ} 0 1 = cc in absurd (omega arith) }
 
   pub lent_drafting : (r : Drafted) → InOrder o b l → Half (Rendering file o b l) b P X B r → Drafting file o b l P X B r
   lent_drafting r i h = record { half = h; lent = λ d e. i.page }
@@ -127,12 +110,10 @@ module _ {file : List ℕ} {o : RenderOptions} {b : Bounds} {l : Lengths} {P X :
   }
 
   module _ (r : Drafted) (h : Half (Rendering file o b l) b P X B r) where
-    pub refused_rendering : {n x : ℕ} {k : SolveStats} → r ≡ Refused n x k → (out₀ out : List ℕ) (rows₀ rows : List Row) → out ≡ out₀ → rows ≡ rows₀ → Rendering file o b l out₀ out rows₀ rows (Denied n x k)
-    refused_rendering {n} {x} {k} e out₀ out rows₀ rows p q =
-        subst (λ (y : List ℕ). Rendering file o b l out₀ y rows₀ rows (Denied n x k)) (sym p)
-        (subst (λ (y : List Row). Rendering file o b l out₀ out₀ rows₀ y (Denied n x k)) (sym q) (half_refused r h e out₀ rows₀))
+    pub refused_rendering : {d : Refusal} → r ≡ Err d → (out : List ℕ) (rows : List Row) → (a : Rendered) → a ≡ Err d → Rendering file o b l out out rows rows a
+    refused_rendering e out rows a f = subst (λ (y : Rendered). Rendering file o b l out out rows rows y) (sym f) (half_refused r h e out rows)
 
-    pub written_rendering : {d : Draft} → r ≡ Page d → (out₀ out : List ℕ) (rows₀ rows : List Row) → length out ≡ length out₀ → length rows ≡ length rows₀
+    pub written_rendering : {d : Draft} → r ≡ Ok d → (out₀ out : List ℕ) (rows₀ rows : List Row) → length out ≡ length out₀ → length rows ≡ length rows₀
         → (a : Rendered) → a ≡ page_of d → Written (chosen d P X B) out₀ out rows₀ rows → Rendering file o b l out₀ out rows₀ rows a
     written_rendering e out₀ out rows₀ rows lo lr a f w =
         subst (λ (y : Rendered). Rendering file o b l out₀ out rows₀ rows y) (sym f) ((half_pledged r h e).by out₀ out rows₀ rows lo lr w)

@@ -1,4 +1,5 @@
 -- Laws for a call's stages: the solver's and the materializer's answers are those of the machine, from the file on.
+use Rattle.std.specs.Prelude.{Ok, Err}
 use mathlib.Core.Path.{◌≡◌, refl, sym, ap, ◌∙◌, subst}
 use mathlib.Core.List.{List, [], ◌∷◌, ◌++◌, map}
 use Prim.Native.Nat.{ℕ}
@@ -20,18 +21,14 @@ use Rattle.machine.specs.Solve.{Solved, solve}
 use Rattle.machine.specs.Materializer.{Rendered as Sheet, materialize, rendered, render}
 use Rattle.machine.specs.Answer.{answer, answer_of}
 use Rattle.solve_workspace.specs.declared.Bounds.{Bounds}
-use Rattle.solve_workspace.specs.declared.Why.{Why}
 use Rattle.solve_workspace.specs.Meets.{limits, tally}
 use Rattle.solve_workspace.specs.Rows.{Row, node_of}
 use Rattle.solve_workspace.specs.Reading.{prepared}
-use Rattle.stats.specs.declared.SolveStats.{SolveStats}
 use Rattle.materialize.specs.Texts.{layout}
 use Rattle.solve.specs.declared.SolvedCore.{SolvedCore}
-use Rattle.solve.specs.declared.Solution.{Solution}
-use Rattle.solve.specs.declared.Solution.TheVariants.{Found, Refused}
-use Rattle.solve.specs.Outcome.{outcome, solver_needs, Arranged, Plans}
-use Rattle.render.specs.declared.page.Drafted.{Drafted}
-use Rattle.render.specs.Drafts.{Half, refusal, Paged}
+use Rattle.solve.specs.declared.Unsolved.{Unsolved}
+use Rattle.solve.specs.Outcome.{Solution, outcome, solver_needs, Arranged, Plans}
+use Rattle.render.specs.Drafts.{Drafted, Half, refusal, Paged}
 use Rattle.render.specs.Call.{Laid}
 use Rattle.render.proofs.Halves.{half_map}
 use Rattle.render.proofs.Pages.{unaltered}
@@ -59,7 +56,7 @@ module _ (T : Table) where
 
 -- ---- the solver's answer, and what comes after it
 
-pub found_arranged : (a : Solution) {n : ℕ} {plans : List Row} {c : SolvedCore} → a ≡ Found c → Plans n a plans → Arranged n c plans
+pub found_arranged : (a : Solution) {n : ℕ} {plans : List Row} {c : SolvedCore} → a ≡ Ok c → Plans n a plans → Arranged n c plans
 found_arranged a {n} {plans} {c} e h = (subst (λ (x : Solution). Plans n x plans) e h).by
 
 module _ (b : Bounds) (R : Rules) (t : Tables) (plans : List Row) where
@@ -74,29 +71,29 @@ module _ (b : Bounds) (R : Rules) (t : Tables) (plans : List Row) where
   after o e = ap answer_of (run_bind (limits b) no_counts (solve R P) then_page ∙ ap (λ (x : Out Solved). and_then (limits b) x then_page) e)
 
   -- the solver visits nothing
-  pub found_unvisited : (a : Solution) (c : SolvedCore) → a ≡ Found c → run (limits b) no_counts (solve R P) ≡ outcome a plans → c.stats.visits ≡ 0
+  pub found_unvisited : (a : Solution) (c : SolvedCore) → a ≡ Ok c → run (limits b) no_counts (solve R P) ≡ outcome a plans → c.stats.visits ≡ 0
   found_unvisited a c e s = unvisited R P (limits b) no_counts (s ∙ ap (λ (x : Solution). outcome x plans) e)
 
   -- a refusal of the solver
-  pub laid_refused : (a : Solution) (why : Why) (needed : ℕ) (k : SolveStats) → a ≡ Refused why needed k → run (limits b) no_counts (solve R P) ≡ outcome a plans
-      → {L X : List Row} {B : List ℕ} (r : Drafted) → r ≡ refusal why needed k → Half (Laid b R P) b L X B r
-  laid_refused a why needed k e s {L} {X} {B} r f =
+  pub laid_refused : (a : Solution) (u : Unsolved) → a ≡ Err u → run (limits b) no_counts (solve R P) ≡ outcome a plans
+      → {L X : List Row} {B : List ℕ} (r : Drafted) → r ≡ refusal u.halt.why u.halt.needed u.stats → Half (Laid b R P) b L X B r
+  laid_refused a u e s {L} {X} {B} r f =
       subst (λ (x : Drafted). Half (Laid b R P) b L X B x) (sym f)
       (record {
         by = λ out rows. record {
-          is = sym (after (outcome (Refused why needed k) plans) (s ∙ ap (λ (x : Solution). outcome x plans) e));
+          is = sym (after (outcome (Err u) plans) (s ∙ ap (λ (x : Solution). outcome x plans) e));
           stands = record { output_is = unaltered out out refl; rows_are = unaltered rows rows refl; fitting = λ j h. absurd (omega (arith, h)); no_fit_checks = refl };
         };
       })
 
   -- the page of what is found
-  pub laid_page : (a : Solution) (c : SolvedCore) → a ≡ Found c → run (limits b) no_counts (solve R P) ≡ outcome a plans
+  pub laid_page : (a : Solution) (c : SolvedCore) → a ≡ Ok c → run (limits b) no_counts (solve R P) ≡ outcome a plans
       → {L X : List Row} {B : List ℕ} (r : Drafted) → Half (Paged b c (layout plans c.plans t.texts t.bytes c.root.0)) b L X B r → Half (Laid b R P) b L X B r
   laid_page a c e s r h =
       half_map r
       (λ out₀ out rows₀ rows x q. record {
         is = q.is ∙ ap (λ (p : Plan). answer_of (run (limits b) (with_needs (tally c.stats) (solver_needs c.needs)) (materialize p >> ret (rendered p (value c.cost))))) (sym (plan_same P.table (arena plans c.plans) c.root.0))
-            ∙ sym (after (outcome (Found c) plans) (s ∙ ap (λ (x : Solution). outcome x plans) e));
+            ∙ sym (after (outcome (Ok c) plans) (s ∙ ap (λ (x : Solution). outcome x plans) e));
         stands = q.stands;
       })
       h

@@ -1,5 +1,5 @@
 -- What a call promises (document 01, "Calls").
-use Rattle.std.specs.Prelude.{◌≡◌, List, [], ℕ, ◌≤◌, length}
+use Rattle.std.specs.Prelude.{◌≡◌, Ok, List, [], ℕ, ◌≤◌, length}
 use Rattle.file_tables.specs.Tables.{Tables}
 use Rattle.layout.specs.Rules.{Rules}
 use Rattle.file_form.specs.declared.fill.Counts.{Counts}
@@ -23,14 +23,11 @@ use Rattle.materialize.specs.Rows.{Row}
 use Rattle.materialize.specs.Texts.{InBytes}
 use Rattle.solve.specs.Accepted.{Accepted}
 use Rattle.solve.specs.Numbered.{TextsBelow}
-use Rattle.render.specs.declared.page.Rendered.{Rendered}
 use Rattle.render.specs.declared.page.Draft.{Draft}
-use Rattle.render.specs.declared.page.Drafted.{Drafted}
-use Rattle.render.specs.declared.page.Drafted.TheVariants.{Page as Drawing}
 use Rattle.render.specs.declared.order.Lengths.{Lengths}
 use Rattle.render.specs.Order.{PageLent, InOrder}
-use Rattle.render.specs.Rendered.{meant, Stands}
-use Rattle.render.specs.Drafts.{Half}
+use Rattle.render.specs.Rendered.{Rendered, meant, Stands}
+use Rattle.render.specs.Drafts.{Drafted, Half}
 
 abbrev pub settings : RenderOptions → Settings
 settings o = record { width = o.width; newline_cost = o.newline_cost; policy = o.policy; rule = o.rule }
@@ -56,7 +53,7 @@ pub record Rendering (file : List ℕ) (o : RenderOptions) (b : Bounds) (l : Len
 -- its first half, with plan records, texts and their bytes as they stand after it. Where there is a page, the memory that it is written with is lent
 pub record Drafting (file : List ℕ) (o : RenderOptions) (b : Bounds) (l : Lengths) (plans texts : List Row) (bytes : List ℕ) (r : Drafted) : Type 0 where
   pub half : Half (Rendering file o b l) b plans texts bytes r
-  pub lent : (d : Draft) → r ≡ Drawing d → PageLent b l
+  pub lent : (d : Draft) → r ≡ Ok d → PageLent b l
 
 -- ---- its parts
 

@@ -1,5 +1,5 @@
 -- The first half of a call: a page is chosen and measured, and nothing is written. What that leaves, and what holds once a pass has written the page.
-use Rattle.std.specs.Prelude.{◌≡◌, List, ℕ, ◌≤◌, length, take}
+use Rattle.std.specs.Prelude.{◌≡◌, Result, Ok, Err, List, ℕ, ◌≤◌, length, take}
 use Rattle.cost.specs.Value.{value}
 use Rattle.layout.specs.Layout.{Plan}
 use Rattle.machine.specs.Events.{number, with_needs, ret, ◌>>◌, run}
@@ -13,21 +13,20 @@ use Rattle.solve_workspace.specs.Meets.{limits, tally, reason}
 use Rattle.solve_workspace.specs.Rows.{low}
 use Rattle.materialize.specs.Rows.{Row}
 use Rattle.materialize.specs.Texts.{InBytes, Planned}
-use Rattle.materialize.specs.Answer.{why_of, Small, Lent}
+use Rattle.materialize.specs.Answer.{Measured, measured_with, why_of, Small, Lent}
 use Rattle.materialize.specs.Walks.{plan, Answered}
 use Rattle.materialize.specs.Writes.{Written}
 use Rattle.materialize.specs.declared.Capacity.{Capacity}
-use Rattle.materialize.specs.declared.Measured.{Measured}
-use Rattle.materialize.specs.declared.Measured.TheVariants.{Page as Fitting, Refused as Lacking}
 use Rattle.solve.specs.declared.SolvedCore.{SolvedCore}
 use Rattle.solve.specs.declared.SolverNeeds.{SolverNeeds}
 use Rattle.solve.specs.Outcome.{solver_needs}
-use Rattle.render.specs.declared.page.Rendered.{Rendered}
-use Rattle.render.specs.declared.page.Rendered.TheVariants.{Page as Printed, Refused as Denied}
+use Rattle.render.specs.declared.page.Refusal.{Refusal}
 use Rattle.render.specs.declared.page.Draft.{Draft}
-use Rattle.render.specs.declared.page.Drafted.{Drafted}
-use Rattle.render.specs.declared.page.Drafted.TheVariants.{Page, Refused}
-use Rattle.render.specs.Rendered.{with_counts, Stands, meant}
+use Rattle.render.specs.Rendered.{Rendered, page_with, refusal_with, with_counts, Stands, meant}
+
+-- what a call comes to before anything is written
+abbrev pub Drafted : Type 0
+Drafted = Result Draft Refusal
 
 -- the materializer's sizes and limit
 abbrev pub capacity : Bounds → Capacity
@@ -41,7 +40,7 @@ chosen d plans texts bytes = plan (take d.plans plans) (take d.texts texts) (tak
 
 -- the answer once its page is written
 abbrev pub page_of : Draft → Rendered
-page_of d = Printed d.cost d.length d.spans (with_counts d.stats d.visits) d.needs
+page_of d = Ok (page_with d.cost d.length d.spans (with_counts d.stats d.visits) d.needs)
 
 -- what a pass that writes the page may rely on: the layout can be read, and it passes every limit of the materializer, with these numbers of bytes, spans and visits
 pub record Drawn (b : Bounds) (d : Draft) (plans texts : List Row) (bytes : List ℕ) : Type 0 where
@@ -53,7 +52,7 @@ pub record Drawn (b : Bounds) (d : Draft) (plans texts : List Row) (bytes : List
   pub small : Small (capacity b)
   pub highest : ℕ
   pub deepest : ℕ
-  pub measured : Answered (capacity b) (chosen d plans texts bytes) (Fitting d.length d.spans d.visits highest deepest)
+  pub measured : Answered (capacity b) (chosen d plans texts bytes) (Ok (measured_with d.length d.spans d.visits highest deepest))
   pub unvisited : d.stats.visits ≡ 0
   pub no_fit_checks : d.stats.fit_checks ≡ 0
 
@@ -70,8 +69,8 @@ pub record Pledged (G : Promise) (p : Plan) (r : Rendered) : Type 0 where
 
 -- its first half: a refusal keeps it where output and span rows stay as they are, whatever they hold; a page can be written, and a pass that writes it keeps it
 abbrev pub HalfOf : Promise → Bounds → List Row → List Row → List ℕ → Drafted → Type 0
-HalfOf G b plans texts bytes (Refused n needed k) = (output : List ℕ) (rows : List Row) → G output output rows rows (Denied n needed k)
-HalfOf G b plans texts bytes (Page d) = Drawn b d plans texts bytes × Pledged G (chosen d plans texts bytes) (page_of d)
+HalfOf G b plans texts bytes (Err e) = (output : List ℕ) (rows : List Row) → G output output rows rows (Err e)
+HalfOf G b plans texts bytes (Ok d) = Drawn b d plans texts bytes × Pledged G (chosen d plans texts bytes) (page_of d)
 
 pub record Half (G : Promise) (b : Bounds) (plans texts : List Row) (bytes : List ℕ) (r : Drafted) : Type 0 where
   pub by : HalfOf G b plans texts bytes r
@@ -80,12 +79,12 @@ pub record Half (G : Promise) (b : Bounds) (plans texts : List Row) (bytes : Lis
 
 -- where there is a page, it can be written into this memory
 pub record Writable (b : Bounds) (plans texts : List Row) (bytes visit depth output : List ℕ) (spans : List Row) (r : Drafted) : Type 0 where
-  pub drawn : (d : Draft) → r ≡ Page d → Drawn b d plans texts bytes
-  pub lent : (d : Draft) → r ≡ Page d → Lent (capacity b) visit depth output spans
+  pub drawn : (d : Draft) → r ≡ Ok d → Drawn b d plans texts bytes
+  pub lent : (d : Draft) → r ≡ Ok d → Lent (capacity b) visit depth output spans
 
 -- a refusal of the solver
 abbrev pub refusal : Why → ℕ → SolveStats → Drafted
-refusal why needed k = Refused (number (reason why)) needed (with_counts k k.visits)
+refusal why needed k = Err (refusal_with (number (reason why)) needed (with_counts k k.visits))
 
 -- what was needed of every kind, in 32 bits each
 abbrev pub page_needs : SolverNeeds → ℕ → ℕ → ℕ → ℕ → Needs
@@ -103,8 +102,8 @@ page_needs q n m x h = record {
 
 -- the first pass's answer over the plan that the solver has chosen, with so many texts and bytes of texts
 abbrev pub drafted : SolvedCore → ℕ → ℕ → Measured → Drafted
-drafted c texts bytes (Fitting n m v x h) = Page (record { cost = c.cost; length = n; spans = m; visits = v; stats = with_counts c.stats 0; needs = page_needs c.needs n m x h; root = c.root; plans = c.plans; texts = texts; bytes = bytes })
-drafted c texts bytes (Lacking e needed v) = Refused (number (why_of e)) needed (with_counts c.stats v)
+drafted c texts bytes (Ok m) = Ok (record { cost = c.cost; length = m.bytes; spans = m.spans; visits = m.visits; stats = with_counts c.stats 0; needs = page_needs c.needs m.bytes m.spans m.visit m.depth; root = c.root; plans = c.plans; texts = texts; bytes = bytes })
+drafted c texts bytes (Err e) = Err (refusal_with (number (why_of e.what)) e.needed (with_counts c.stats e.visits))
 
 -- the answer is the machine's, once the plan of layout p is chosen
 pub record Paged (b : Bounds) (c : SolvedCore) (p : Plan) (output₀ output : List ℕ) (rows₀ rows : List Row) (r : Rendered) : Type 0 where

@@ -12,11 +12,11 @@ ghost use Rattle.render.specs.Drafts.{Half, Writable};
 ghost use Rattle.render.specs.Call.{Rendering, Drafting, Readied, Laid, Holding, MemoHolding, tables_held, lengths, lengths_with};
 
 use crate::order::{Lengths, in_order};
-use crate::page::{Drafted, Rendered, measure_page, solver_refused, write_page};
+use crate::page::{Drafted, Refusal, Rendered, measure_page, solver_refused, write_page};
 use file_form::fill::Counts;
 use file_tables::{NodeId, TextId};
-use prepare::read::{Answer, read_lent};
-use solve::{Solution, solve};
+use prepare::read::read_lent;
+use solve::solve;
 use solve_workspace::{Bounds, RenderOptions};
 use stats::SolveStats;
 
@@ -44,17 +44,13 @@ fn lay_out(
     requires { Room b tasks.old results.old pending.old frontier.old kept.old plans.old × MemoRoom b index.old entries.old × Readied (tables nodes.now edges.now choices.now texts.now bytes.now 0 root.0 space.0) × (b.visit ≤ length visit.old) }
     ensures { Half (Laid b (rules options) (prepared (tables nodes.now edges.now choices.now texts.now bytes.now 0 root.0 space.0))) b plans.new texts.now bytes.now result }
 {
-    let a = solve(
+    let solution = solve(
         options, b, nodes, edges, choices, texts, root, space, tasks, results, pending, index,
         entries, frontier, kept, plans,
     );
-    match a {
-        Solution::Refused(why, needed, stats) => {
-            return solver_refused(why, needed, stats);
-        }
-        Solution::Found(core) => {
-            return measure_page(b, core, plans, texts, bytes, visit);
-        }
+    match solution {
+        Err(u) => solver_refused(u.halt.why, u.halt.needed, u.stats),
+        Ok(core) => measure_page(b, core, plans, texts, bytes, visit),
     }
 }
 
@@ -81,26 +77,21 @@ fn lay_out_held(
     requires { Room b tasks.old results.old pending.old frontier.old kept.old plans.old × MemoHolding b index.old entries.old × Holding n nodes.now edges.now choices.now texts.now bytes.now × (b.visit ≤ length visit.old) }
     ensures { Half (Laid b (rules options) (prepared (tables_held n nodes.now edges.now choices.now texts.now bytes.now))) b plans.new texts.now bytes.now result }
 {
-    let e0 = n.nodes as usize;
-    let e1 = n.edges as usize;
-    let e2 = n.choices as usize;
-    let e3 = n.texts as usize;
-    let e4 = n.bytes as usize;
-    let e5 = memo::memo_slots_for(b.memo);
+    let slots = memo::memo_slots_for(b.memo);
     lay_out(
         options,
         b,
-        &nodes[..e0],
-        &edges[..e1],
-        &choices[..e2],
-        &texts[..e3],
-        &bytes[..e4],
+        &nodes[..n.nodes as usize],
+        &edges[..n.edges as usize],
+        &choices[..n.choices as usize],
+        &texts[..n.texts as usize],
+        &bytes[..n.bytes as usize],
         n.root,
         n.space,
         tasks,
         results,
         pending,
-        &mut index[..e5],
+        &mut index[..slots],
         entries,
         kept,
         frontier,
@@ -132,21 +123,12 @@ fn render_lent(
     requires { TablesLent (length nodes.old) (length edges.old) (length choices.old) (length texts.old) (length bytes.old) × Room b tasks.old results.old pending.old frontier.old kept.old plans.old × MemoHolding b index.old entries.old × (b.visit ≤ length visit.old) }
     ensures { (l : Sizes) → InOrder options b l → Half (Rendering file.now options b l) b plans.new texts.new bytes.new result }
 {
-    let a = read_lent(file, nodes, edges, choices, texts, bytes);
-    match a {
-        Answer::Refused(number) => {
-            return Drafted::Refused {
-                number: number,
-                needed: 0,
-                stats: SolveStats::ZERO,
-            };
-        }
-        Answer::Accepted(n) => {
-            return lay_out_held(
-                options, b, n, nodes, edges, choices, texts, bytes, tasks, results, pending, index,
-                entries, kept, frontier, plans, visit,
-            );
-        }
+    match read_lent(file, nodes, edges, choices, texts, bytes) {
+        Err(number) => Err(Refusal::uncounted(number)),
+        Ok(n) => lay_out_held(
+            options, b, n, nodes, edges, choices, texts, bytes, tasks, results, pending, index,
+            entries, kept, frontier, plans, visit,
+        ),
     }
 }
 
@@ -190,16 +172,12 @@ pub fn render_plan(
         frontier: frontier.len(),
         plans: plans.len(),
         visit: visit.len(),
-        depth: depth,
-        output: output,
-        spans: spans,
+        depth,
+        output,
+        spans,
     };
     if !in_order(options, b, l) {
-        return Drafted::Refused {
-            number: 1,
-            needed: 0,
-            stats: SolveStats::ZERO,
-        };
+        return Err(Refusal::uncounted(1));
     }
     render_lent(
         file, options, b, nodes, edges, choices, texts, bytes, tasks, results, pending, index,
@@ -222,22 +200,8 @@ fn write_drafted(
     requires { Writable b plans.now texts.now bytes.now visit.old depth.old output.old spans.old r }
     ensures { (file : List ℕ) (o : Options) (l : Sizes) → Half (Rendering file o b l) b plans.now texts.now bytes.now r → Rendering file o b l output.old output.new spans.old spans.new result }
 {
-    match r {
-        Drafted::Page(d) => {
-            return write_page(b, d, plans, texts, bytes, visit, depth, output, spans);
-        }
-        Drafted::Refused {
-            number,
-            needed,
-            stats,
-        } => {
-            return Rendered::Refused {
-                number: number,
-                needed: needed,
-                stats: stats,
-            };
-        }
-    }
+    let d = r?;
+    write_page(b, d, plans, texts, bytes, visit, depth, output, spans)
 }
 
 // A file's page, or why there is none. A page goes to the front of `output`, its spans to the front of `spans`. All else that is lent by `&mut` is

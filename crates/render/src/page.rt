@@ -1,11 +1,12 @@
 // The answer of a call, and the page of the plan that the solver has chosen: first it is measured, then written.
 ghost use Rattle.std.specs.Prelude.{◌≡◌, ◌≤◌, length};
+ghost use Rattle.stats.specs.Counts.{none_counted};
 ghost use Rattle.machine.specs.Events.{number};
 ghost use Rattle.materialize.specs.Texts.{layout, InBytes};
 ghost use Rattle.materialize.specs.Answer.{why_of, Small, Lent};
 ghost use Rattle.materialize.specs.Writes.{Written};
 ghost use Rattle.solve.specs.Outcome.{Arranged};
-ghost use Rattle.render.specs.Rendered.{with_counts};
+ghost use Rattle.render.specs.Rendered.{refusal_with, with_counts};
 ghost use Rattle.render.specs.Drafts.{capacity, chosen, page_of, Drawn, Half, refusal, page_needs, drafted, Paged};
 
 use cost::ConsumerCost;
@@ -15,22 +16,39 @@ use solve::{SolvedCore, SolverNeeds};
 use solve_workspace::{Bounds, Needs, Why};
 use stats::SolveStats;
 
-// What a call answers. A page comes with the sizes that just suffice for it. Where a size is too small, `needed` is the size that is needed there; else it is 0.
+// A page that stands in the memory lent for it, with the sizes that just suffice for it.
 #[derive(Clone, Copy)]
-pub enum Rendered {
-    Page {
-        cost: ConsumerCost,
-        length: usize,
-        spans: usize,
-        stats: SolveStats,
-        needs: Needs,
-    },
-    Refused {
-        number: u32,
-        needed: u64,
-        stats: SolveStats,
-    },
+pub struct Page {
+    pub cost: ConsumerCost,
+    pub length: usize,
+    pub spans: usize,
+    pub stats: SolveStats,
+    pub needs: Needs,
 }
+
+// Why there is no page. Where a size is too small, `needed` is the size that is needed there; else it is 0.
+#[derive(Clone, Copy)]
+pub struct Refusal {
+    pub number: u32,
+    pub needed: u64,
+    pub stats: SolveStats,
+}
+
+impl Refusal {
+    // A refusal before the solver begins: nothing is counted yet, and no size is too small.
+    pub fn uncounted(number: u32) -> Refusal
+        ensures { result ≡ refusal_with number 0 none_counted }
+    {
+        Refusal {
+            number,
+            needed: 0,
+            stats: SolveStats::ZERO,
+        }
+    }
+}
+
+// What a call answers.
+pub type Rendered = Result<Page, Refusal>;
 
 // A page that is chosen and measured, but not written. Its counts are the solver's, without the visits. Its layout is the plan `root` of the first `plans` plan records,
 // over the first `texts` rows of texts and the first `bytes` of their bytes.
@@ -49,24 +67,17 @@ pub struct Draft {
 }
 
 // What a call comes to before anything is written.
-#[derive(Clone, Copy)]
-pub enum Drafted {
-    Page(Draft),
-    Refused {
-        number: u32,
-        needed: u64,
-        stats: SolveStats,
-    },
-}
+pub type Drafted = Result<Draft, Refusal>;
 
 // The solver's counts, with the visits. There are no fit checks.
 fn with_visits(stats: SolveStats, visits: u64) -> SolveStats
     ensures { result ≡ with_counts stats visits }
 {
-    let mut s = stats;
-    s.visits = visits;
-    s.fit_checks = 0;
-    s
+    SolveStats {
+        visits,
+        fit_checks: 0,
+        ..stats
+    }
 }
 
 // Document 01's number of what the materializer lacks.
@@ -85,14 +96,11 @@ fn page_number(e: Exhausted) -> u32
 pub fn solver_refused(why: Why, needed: u64, stats: SolveStats) -> Drafted
     ensures { result ≡ refusal why needed stats }
 {
-    let number = solve_workspace::solver_number(why);
-    let mut counts = stats;
-    counts.fit_checks = 0;
-    Drafted::Refused {
-        number: number,
-        needed: needed,
-        stats: counts,
-    }
+    Err(Refusal {
+        number: solve_workspace::solver_number(why),
+        needed,
+        stats: with_visits(stats, stats.visits),
+    })
 }
 
 pub fn capacity_of(b: Bounds) -> Capacity
@@ -127,37 +135,24 @@ fn page_needs(core: SolverNeeds, length: usize, spans: usize, visit: usize, dept
 fn draft_of(core: SolvedCore, texts: usize, bytes: usize, m: Measured) -> Drafted
     ensures { result ≡ drafted core texts bytes m }
 {
-    let stats = core.stats;
     match m {
-        Measured::Page(length, spans, visits, visit, depth) => {
-            let counts = with_visits(stats, 0);
-            let needs = page_needs(core.needs, length, spans, visit, depth);
-            let cost = core.cost;
-            let root = core.root;
-            let d = Draft {
-                cost: cost,
-                length: length,
-                spans: spans,
-                visits: visits,
-                stats: counts,
-                needs: needs,
-                root: root,
-                plans: core.plans,
-                texts: texts,
-                bytes: bytes,
-            };
-            Drafted::Page(d)
-        }
-        Measured::Refused(e, needed, visits) => {
-            let counts = with_visits(stats, visits);
-            let number = page_number(e);
-            let size = needed as u64;
-            Drafted::Refused {
-                number: number,
-                needed: size,
-                stats: counts,
-            }
-        }
+        Ok(page) => Ok(Draft {
+            cost: core.cost,
+            length: page.bytes,
+            spans: page.spans,
+            visits: page.visits,
+            stats: with_visits(core.stats, 0),
+            needs: page_needs(core.needs, page.bytes, page.spans, page.visit, page.depth),
+            root: core.root,
+            plans: core.plans,
+            texts,
+            bytes,
+        }),
+        Err(passed) => Err(Refusal {
+            number: page_number(passed.what),
+            needed: passed.needed as u64,
+            stats: with_visits(core.stats, passed.visits),
+        }),
     }
 }
 
@@ -173,25 +168,14 @@ pub fn measure_page(
     requires { (b.visit ≤ length visit.old) × Arranged (length texts.now) core plans.now × InBytes texts.now bytes.now × (core.stats.visits ≡ 0) }
     ensures { Half (Paged b core (layout plans.now core.plans texts.now bytes.now core.root.0)) b plans.now texts.now bytes.now result }
 {
-    let capacity = capacity_of(b);
-    let count = core.plans;
-    let m = measure(capacity, &plans[..count], texts, visit, core.root);
+    let m = measure(
+        capacity_of(b),
+        &plans[..core.plans],
+        texts,
+        visit,
+        core.root,
+    );
     draft_of(core, texts.len(), bytes.len(), m)
-}
-
-fn page_answer(d: Draft) -> Rendered
-    ensures { result ≡ page_of d }
-{
-    let cost = d.cost;
-    let stats = with_visits(d.stats, d.visits);
-    let needs = d.needs;
-    Rendered::Page {
-        cost: cost,
-        length: d.length,
-        spans: d.spans,
-        stats: stats,
-        needs: needs,
-    }
 }
 
 // A page that is measured is written: its bytes to the front of `output`, its spans to the front of `spans`.
@@ -209,20 +193,22 @@ pub fn write_page(
     requires { Drawn b d plans.now texts.now bytes.now × Lent (capacity b) visit.old depth.old output.old spans.old }
     ensures { (result ≡ page_of d) × Written (chosen d plans.now texts.now bytes.now) output.old output.new spans.old spans.new }
 {
-    let capacity = capacity_of(b);
-    let e0 = d.plans;
-    let e1 = d.texts;
-    let e2 = d.bytes;
     write(
-        capacity,
-        &plans[..e0],
-        &texts[..e1],
-        &bytes[..e2],
+        capacity_of(b),
+        &plans[..d.plans],
+        &texts[..d.texts],
+        &bytes[..d.bytes],
         visit,
         depth,
         output,
         spans,
         d.root,
     );
-    page_answer(d)
+    Ok(Page {
+        cost: d.cost,
+        length: d.length,
+        spans: d.spans,
+        stats: with_visits(d.stats, d.visits),
+        needs: d.needs,
+    })
 }

@@ -1,5 +1,5 @@
 -- What is right of a live report, and of its whole page: "the layouts of that one document" (document 02, change 2).
-use Rattle.std.specs.Prelude.{◌≡◌, List, [], ◌∷◌, ℕ, ◌≤◌, length}
+use Rattle.std.specs.Prelude.{◌≡◌, Ok, List, [], ◌∷◌, ℕ, ◌≤◌, length}
 use Rattle.std.proofs.Math.Option.{some}
 use Rattle.layout.specs.Document.{Doc}
 use Rattle.layout.specs.Layout.{Plan, page, overflow_of, burden_of}
@@ -10,7 +10,6 @@ use Rattle.layout.specs.Table.{Reads}
 use Rattle.layout.specs.Report.{report_doc}
 use Rattle.file_encode.specs.Fields.{Bytes}
 use Rattle.file_form.specs.Form.{counts_of}
-use Rattle.prepare.specs.declared.read.Answer.TheVariants.{Accepted}
 use Rattle.prepare.specs.File.{Means}
 use Rattle.machine.specs.Materializer.{Rendered}
 use Rattle.answer.specs.Answer.{Settings, rules_of, document_of}
@@ -20,7 +19,7 @@ use Rattle.report.specs.Report.{Row, Report, rows_most}
 -- a row is an accepted file with the rule's page of it
 pub record RightRow (c : Settings) (r : Row) : Type 0 where
   pub in_bytes : Bytes r.file
-  pub means : Means r.file (Accepted (counts_of r.file))
+  pub means : Means r.file (Ok (counts_of r.file))
   pub page : RulesPage r.file c r.page
 
 abbrev pub RightRows : Settings → List Row → Type 0

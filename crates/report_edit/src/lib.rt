@@ -5,9 +5,7 @@ ghost use Rattle.report_edit.specs.Edits.{TakingIn, TakenIn, TakingOut, TakenOut
 
 use cost::ConsumerCost;
 use report_rows::{entry_at, starts};
-use report_store::{
-    insert_bytes, insert_marks, insert_row, remove_bytes, remove_marks, remove_row,
-};
+use report_store::{insert, insert_marks, remove};
 
 // A row's own page: its cost, its bytes, its spans.
 #[derive(Clone, Copy)]
@@ -36,21 +34,20 @@ pub fn take_in(
 {
     let used = starts(table, rows);
     let at = starts(table, place);
-    insert_bytes(files, used.files, at.files, file);
-    insert_bytes(pages, used.pages, at.pages, &row[..page.length]);
+    insert(files, used.files, at.files, file);
+    insert(pages, used.pages, at.pages, &row[..page.length]);
     insert_marks(marks, used.marks, at.marks, row_spans, page.spans);
-    let cost = page.cost;
     let words = [
         file.len() as u64,
         page.length as u64,
         page.spans as u64,
-        cost.overflow_high,
-        cost.overflow_low,
-        cost.burden,
+        page.cost.overflow_high,
+        page.cost.overflow_low,
+        page.cost.burden,
         rule as u64,
         0,
     ];
-    insert_row(table, rows, place, words);
+    insert(table, rows, place, &[words]);
 }
 
 // The row at a place goes.
@@ -68,8 +65,8 @@ pub fn take_out(
     let used = starts(table, rows);
     let at = starts(table, place);
     let row = entry_at(table, place);
-    remove_bytes(files, used.files, at.files, row.file);
-    remove_bytes(pages, used.pages, at.pages, row.page);
-    remove_marks(marks, used.marks, at.marks, row.spans);
-    remove_row(table, rows, place);
+    remove(files, used.files, at.files, row.file);
+    remove(pages, used.pages, at.pages, row.page);
+    remove(marks, used.marks, at.marks, row.spans);
+    remove(table, rows, place, 1);
 }

@@ -1,24 +1,20 @@
 -- Laws for the tests before a step.
 use mathlib.Core.Path.{◌≡◌, refl, sym, subst}
-use mathlib.Core.Bool.{Bool, true, false, not}
+use mathlib.Core.Bool.{Bool, true, false}
 use mathlib.Core.List.{List}
-use Prim.Native.Nat.{ℕ, zero, suc, ◌+◌, ◌-◌, ◌≤◌}
+use Prim.Native.Nat.{ℕ, ◌+◌, ◌-◌, ◌≤◌}
 use native.Mathlib.Omega.{arith}
+use Rattle.std.specs.Prelude.{Option, Some, None}
 use lib.Dec.{leb}
 use lib.ListN.{take}
 use Rattle.file_checks.specs.Told.{Told}
 use Rattle.file_checks.specs.Tells.{tell_no, tell_le}
 use Rattle.render.specs.Order.{OptionsRight}
--- what a test of `!b` says
-pub use Rattle.render.proofs.Ordered.{was_false, was_true}
-use Rattle.desks.specs.Desks.{gate_number as desk_number}
 use Rattle.desks.specs.Calls.{DeskGate, opens as may, order as unordered, desk as no_desk}
 use Rattle.desks.proofs.Calling.{gated as desk_gated}
 use Rattle.report.specs.Memory.{Words, file_length, sum_of, Sound}
 use Rattle.report_rows.specs.Sums.{Summing, sound, unsound}
 use Rattle.report_rows.specs.declared.Totals.{Totals}
-use Rattle.report_rows.specs.declared.Summed.{Summed}
-use Rattle.report_rows.specs.declared.Summed.TheVariants.{Sound as Holds, Unsound}
 use Rattle.report_gate.specs.Heads.{options, EmptyHead}
 use Rattle.solve_workspace.specs.declared.RenderOptions.{RenderOptions}
 use Rattle.report_gate.specs.Gates.{FilesRoom, room, IsSound, is, first, row_number, gate_number, Gate, opens, order, desk, place, rows}
@@ -39,66 +35,44 @@ never = tell_no (λ z. z)
 
 -- ---- room for a file
 
-pub no_room_unsound : {s : Summed} {file files : ℕ} → s ≡ Unsound → FilesRoom s file files → ⊥
+pub no_room_unsound : {s : Option Totals} {file files : ℕ} → s ≡ None → FilesRoom s file files → ⊥
 no_room_unsound e (room h) = let z : ◌≡◌ {A = ℕ} 0 1 = cc in absurd (omega arith)
 
-room_in : {s : Summed} {t : Totals} {file files : ℕ} → s ≡ Holds t → FilesRoom s file files → t.files + file ≤ files
+room_in : {s : Option Totals} {t : Totals} {file files : ℕ} → s ≡ Some t → FilesRoom s file files → t.files + file ≤ files
 room_in {t = t} {file = file} {files = files} e (room {t = u} h) = let q : u ≡ t = cc in subst (λ (z : Totals). z.files + file ≤ files) q h
 
-pub no_room : {s : Summed} {t : Totals} {file files : ℕ} → s ≡ Holds t → (t.files + file ≤ files → ⊥) → FilesRoom s file files → ⊥
+pub no_room : {s : Option Totals} {t : Totals} {file files : ℕ} → s ≡ Some t → (t.files + file ≤ files → ⊥) → FilesRoom s file files → ⊥
 no_room e n h = n (room_in e h)
 
-pub room_told : {s : Summed} {t : Totals} {file files : ℕ} {b : Bool} → s ≡ Holds t → Told (t.files + file ≤ files) b → Told (FilesRoom s file files) b
-room_told {t = t} {file = file} {files = files} e h = record { yes = λ q. subst (λ (z : Summed). FilesRoom z file files) (sym e) (room (h.yes q)); no = λ q r. h.no q (room_in e r) }
+pub room_told : {s : Option Totals} {t : Totals} {file files : ℕ} {b : Bool} → s ≡ Some t → Told (t.files + file ≤ files) b → Told (FilesRoom s file files) b
+room_told {t = t} {file = file} {files = files} e h = record { yes = λ q. subst (λ (z : Option Totals). FilesRoom z file files) (sym e) (room (h.yes q)); no = λ q r. h.no q (room_in e r) }
 
-pub room_le : {s : Summed} {t : Totals} (file files : ℕ) → s ≡ Holds t → file ≤ files → Told (FilesRoom s file files) (leb t.files (files - file))
+pub room_le : {s : Option Totals} {t : Totals} (file files : ℕ) → s ≡ Some t → file ≤ files → Told (FilesRoom s file files) (leb t.files (files - file))
 room_le {t = t} file files e h = room_told e (tell_le t.files (files - file) (λ l. omega (arith, l, h)) (λ l. omega (arith, l, h)))
 
-pub sound_is : {s : Summed} {t : Totals} → s ≡ Holds t → IsSound s
+pub sound_is : {s : Option Totals} {t : Totals} → s ≡ Some t → IsSound s
 sound_is {t = t} e = subst IsSound (sym e) is
 
-pub not_sound : {s : Summed} → s ≡ Unsound → IsSound s → ⊥
+pub not_sound : {s : Option Totals} → s ≡ None → IsSound s → ⊥
 not_sound e is = let z : ◌≡◌ {A = ℕ} 0 1 = cc in absurd (omega arith)
 
 -- ---- the whole of it
 
-pub sound_of : {n F P M : ℕ} {table : List Words} {s : Summed} → Summing n table F P M s → IsSound s → Sound n table F P M
+pub sound_of : {n F P M : ℕ} {table : List Words} {s : Option Totals} → Summing n table F P M s → IsSound s → Sound n table F P M
 sound_of (sound d t) i = d
 sound_of (unsound m) i = absurd (not_sound refl i)
 
-pub unsound_of : {n F P M : ℕ} {table : List Words} {s : Summed} → Summing n table F P M s → (IsSound s → ⊥) → Sound n table F P M → ⊥
+pub unsound_of : {n F P M : ℕ} {table : List Words} {s : Option Totals} → Summing n table F P M s → (IsSound s → ⊥) → Sound n table F P M → ⊥
 unsound_of (sound d t) i = λ _. i is
 unsound_of (unsound m) i = m
 
-pub files_of : {n F P M : ℕ} {table : List Words} {s : Summed} {file : ℕ} → Summing n table F P M s → FilesRoom s file F → Sound n table F P M × (sum_of file_length (take n table) + file ≤ F)
+pub files_of : {n F P M : ℕ} {table : List Words} {s : Option Totals} {file : ℕ} → Summing n table F P M s → FilesRoom s file F → Sound n table F P M × (sum_of file_length (take n table) + file ≤ F)
 files_of (sound d t) r = (d, omega (arith, room_in refl r, t.files_are))
 files_of (unsound m) r = absurd (no_room_unsound refl r)
 
-pub no_files : {n F P M : ℕ} {table : List Words} {s : Summed} {file : ℕ} → Summing n table F P M s → (FilesRoom s file F → ⊥) → Sound n table F P M → sum_of file_length (take n table) + file ≤ F → ⊥
+pub no_files : {n F P M : ℕ} {table : List Words} {s : Option Totals} {file : ℕ} → Summing n table F P M s → (FilesRoom s file F → ⊥) → Sound n table F P M → sum_of file_length (take n table) + file ≤ F → ⊥
 no_files (sound d t) r = λ _ x. r (room (omega (arith, x, t.files_are)))
 no_files (unsound m) r = λ d _. m d
-
--- ---- which number
-
-pub refused_first : {n : ℕ} (a : Bool) (d : ℕ) (b c : Bool) → n ≡ desk_number a d → (n ≡ 0 → ⊥) → n ≡ gate_number a d b c
-refused_first false d b c e h = e
-refused_first {n} true d b c e h = go (desk_number true d) e
-  where
-    go : (m : ℕ) → n ≡ m → n ≡ first m (row_number b c)
-    go zero q = absurd (h q)
-    go (suc m) q = q
-
-pub not_there : {n : ℕ} (a : Bool) (d : ℕ) (b c : Bool) → n ≡ desk_number a d → n ≡ 0 → not b ≡ true → 23 ≡ gate_number a d b c
-not_there false d b c e z f = absurd (omega (arith, e, z))
-not_there true d b c e z f = rw (← e, z, was_false b f) refl
-
-pub is_full : {n : ℕ} (a : Bool) (d : ℕ) (b c : Bool) → n ≡ desk_number a d → n ≡ 0 → not b ≡ false → c ≡ true → 24 ≡ gate_number a d b c
-is_full false d b c e z f g = absurd (omega (arith, e, z))
-is_full true d b c e z f g = rw (← e, z, was_true b f, g) refl
-
-pub is_open : {n : ℕ} (a : Bool) (d : ℕ) (b c : Bool) → n ≡ desk_number a d → n ≡ 0 → not b ≡ false → c ≡ false → 0 ≡ gate_number a d b c
-is_open false d b c e z f g = absurd (omega (arith, e, z))
-is_open true d b c e z f g = rw (← e, z, was_true b f, g) refl
 
 -- ---- an empty report
 

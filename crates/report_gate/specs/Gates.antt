@@ -1,5 +1,5 @@
 -- What 1 (order) asks of a step, and the order of 1, 28, 23 and 24 (document 02, changes 2 and 8).
-use Rattle.std.specs.Prelude.{Bool, true, false, List, ℕ, zero, suc, ◌+◌, ◌≤◌, ◌<◌, take}
+use Rattle.std.specs.Prelude.{Option, Some, Bool, true, false, List, ℕ, zero, suc, ◌+◌, ◌≤◌, ◌<◌, take}
 use Rattle.solve_workspace.specs.declared.Bounds.{Bounds}
 use Rattle.render.specs.declared.order.Lengths.{Lengths}
 use Rattle.render.specs.Order.{OptionsRight, InOrder}
@@ -7,8 +7,6 @@ use Rattle.desks.specs.Desks.{last_desk}
 use Rattle.desks.specs.Desks.{gate_number as desk_number}
 use Rattle.report.specs.Memory.{Words, file_length, sum_of, Sound}
 use Rattle.report_rows.specs.declared.Totals.{Totals}
-use Rattle.report_rows.specs.declared.Summed.{Summed}
-use Rattle.report_rows.specs.declared.Summed.TheVariants.{Sound as Holds}
 use Rattle.report_gate.specs.declared.Head.{Head}
 use Rattle.report_gate.specs.declared.Stores.{Stores}
 use Rattle.report_gate.specs.Heads.{options}
@@ -35,11 +33,11 @@ pub record RemovalLent (h : Head) (b : Bounds) (table : List Words) (k : Stores)
 
 -- ---- the parts of the test
 
-pub data FilesRoom : Summed → ℕ → ℕ → Type 0 where
-  room : {t : Totals} {file files : ℕ} → t.files + file ≤ files → FilesRoom (Holds t) file files
+pub data FilesRoom : Option Totals → ℕ → ℕ → Type 0 where
+  room : {t : Totals} {file files : ℕ} → t.files + file ≤ files → FilesRoom (Some t) file files
 
-pub data IsSound : Summed → Type 0 where
-  is : {t : Totals} → IsSound (Holds t)
+pub data IsSound : Option Totals → Type 0 where
+  is : {t : Totals} → IsSound (Some t)
 
 -- ---- the order
 

@@ -7,11 +7,11 @@ ghost use Rattle.report.specs.Memory.{Words};
 ghost use Rattle.report.specs.Report.{rows_most};
 ghost use Rattle.report_rows.specs.Sums.{Summing};
 ghost use Rattle.report_gate.specs.Heads.{options, Opening};
-ghost use Rattle.report_gate.specs.Gates.{StoresLent, FilesRoom, IsSound, InsertionLent, RemovalLent, gate_number, Gate};
+ghost use Rattle.report_gate.specs.Gates.{StoresLent, FilesRoom, InsertionLent, RemovalLent, gate_number, Gate};
 
 use desks::desk_gate;
 use render::order::{Lengths, in_order, options_right};
-use report_rows::Summed;
+use report_rows::Totals;
 use solve_workspace::{Bounds, RenderOptions};
 
 // What a report has beside its memory: how many rows, and its setting.
@@ -34,12 +34,6 @@ pub struct Stores {
     pub spans: usize,
 }
 
-#[derive(Clone, Copy)]
-pub enum Opened {
-    Report(Head),
-    Refused(u32),
-}
-
 pub fn options_of(h: Head) -> RenderOptions
     ensures { result ≡ options h }
 {
@@ -52,21 +46,21 @@ pub fn options_of(h: Head) -> RenderOptions
 }
 
 // A report without rows. No memory is touched: whatever it holds, no row of it is read.
-pub fn open_report(width: u32, newline_cost: u32, policy: u32, rule: u32) -> Opened
+pub fn open_report(width: u32, newline_cost: u32, policy: u32, rule: u32) -> Result<Head, u32>
     ensures { Opening width newline_cost policy rule result }
 {
     let h = Head {
         rows: 0,
-        width: width,
-        newline_cost: newline_cost,
-        policy: policy,
-        rule: rule,
+        width,
+        newline_cost,
+        policy,
+        rule,
     };
-    let o = options_of(h);
-    if options_right(o) {
-        return Opened::Report(h);
+    if options_right(options_of(h)) {
+        Ok(h)
+    } else {
+        Err(1)
     }
-    Opened::Refused(1)
 }
 
 // ---- what 1 asks
@@ -77,72 +71,29 @@ fn stores_lent(b: Bounds, k: Stores) -> bool
 {
     let bytes = b.output as usize;
     let spans = b.spans as usize;
-    if k.pages < bytes {
-        return false;
-    }
-    if k.output < bytes {
-        return false;
-    }
-    if k.marks < spans {
-        return false;
-    }
-    spans <= k.spans
+    bytes <= k.pages && bytes <= k.output && spans <= k.marks && spans <= k.spans
 }
 
 // The memory is sound, and there is room for one file more.
-fn files_room(s: Summed, file: usize, files: usize) -> bool
+fn files_room(s: Option<Totals>, file: usize, files: usize) -> bool
     ensures { Told (FilesRoom s file files) result }
 {
     match s {
-        Summed::Sound(t) => {
-            if files < file {
-                return false;
-            }
-            return t.files <= files - file;
-        }
-        Summed::Unsound => {
-            return false;
-        }
+        Some(t) => file <= files && t.files <= files - file,
+        None => false,
     }
 }
 
-fn is_sound(s: Summed) -> bool
-    ensures { Told (IsSound s) result }
-{
-    match s {
-        Summed::Sound(t) => {
-            return true;
-        }
-        Summed::Unsound => {
-            return false;
-        }
-    }
-}
-
-fn insertion_lent(h: Head, b: Bounds, file: usize, s: Summed, k: Stores, l: Lengths) -> bool
+fn insertion_lent(h: Head, b: Bounds, file: usize, s: Option<Totals>, k: Stores, l: Lengths) -> bool
     ensures { (table : List Words) → Summing h.rows table k.files k.pages k.marks s → Told (InsertionLent h b file table k l) result }
 {
-    if !files_room(s, file, k.files) {
-        return false;
-    }
-    if !stores_lent(b, k) {
-        return false;
-    }
-    let o = options_of(h);
-    in_order(o, b, l)
+    files_room(s, file, k.files) && stores_lent(b, k) && in_order(options_of(h), b, l)
 }
 
-fn removal_lent(h: Head, b: Bounds, s: Summed, k: Stores) -> bool
+fn removal_lent(h: Head, b: Bounds, s: Option<Totals>, k: Stores) -> bool
     ensures { (table : List Words) → Summing h.rows table k.files k.pages k.marks s → Told (RemovalLent h b table k) result }
 {
-    if !is_sound(s) {
-        return false;
-    }
-    if !stores_lent(b, k) {
-        return false;
-    }
-    let o = options_of(h);
-    options_right(o)
+    s.is_some() && stores_lent(b, k) && options_right(options_of(h))
 }
 
 // ---- the gates
@@ -153,15 +104,14 @@ fn number_of(ordered: bool, desk: u32, there: bool, full: bool) -> u32
 {
     let first = desk_gate(ordered, desk);
     if first != 0 {
-        return first;
+        first
+    } else if !there {
+        23
+    } else if full {
+        24
+    } else {
+        0
     }
-    if !there {
-        return 23;
-    }
-    if full {
-        return 24;
-    }
-    0
 }
 
 pub fn insert_gate(
@@ -170,7 +120,7 @@ pub fn insert_gate(
     file: usize,
     h: Head,
     b: Bounds,
-    s: Summed,
+    s: Option<Totals>,
     k: Stores,
     l: Lengths,
 ) -> u32
@@ -181,7 +131,7 @@ pub fn insert_gate(
     number_of(ordered, desk, place <= count, 1024 <= count)
 }
 
-pub fn remove_gate(desk: u32, place: usize, h: Head, b: Bounds, s: Summed, k: Stores) -> u32
+pub fn remove_gate(desk: u32, place: usize, h: Head, b: Bounds, s: Option<Totals>, k: Stores) -> u32
     ensures { (table : List Words) → Summing h.rows table k.files k.pages k.marks s → Gate (RemovalLent h b table k) desk (place < h.rows) ⊥ result }
 {
     let count = h.rows as usize;

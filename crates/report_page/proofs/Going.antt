@@ -5,7 +5,7 @@ use Prim.Native.Nat.{ℕ, ◌+◌, ◌≤◌, ◌<◌, ◌^◌}
 use native.Mathlib.Numerals.{add-one}
 use native.Mathlib.Omega.{arith}
 use lib.ListN.{length, get_or, take, drop, length-map, drop_of_length-le}
-use lib.Seq.{sets, length-sets, length-take-le, drop-cons, get_or-take}
+use lib.Seq.{sets, length-sets, drop-cons}
 use Rattle.layout.specs.SpanWords.{span_of}
 use Rattle.report.specs.Memory.{Words, page_length, span_count, pages_of}
 use Rattle.report_page.specs.Moves.{lead, moved_words}
@@ -15,7 +15,6 @@ use Rattle.report_page.proofs.Left.{Left, left_first, left_last, left_asks, left
 
 -- k of the rows are put: the next one's page and spans are at `from` and n of the stores, and output holds `at` bytes
 pub record Going (rows : ℕ) (table : List Words) (pages : List ℕ) (marks : List Words) (output₀ : List ℕ) (spans₀ : List Words) (k from at n : ℕ) (output : List ℕ) (spans : List Words) : Type 0 where
-  pub rows_put : k ≤ rows
   pub bytes : List ℕ
   pub words : List Words
   pub output_is : output ≡ sets output₀ 0 bytes
@@ -41,7 +40,6 @@ pub record Turn (w : Words) (pages : List ℕ) (marks : List Words) (k from at n
 module _ {rows : ℕ} {table : List Words} {pages : List ℕ} {marks : List Words} {output₀ : List ℕ} {spans₀ : List Words} (D : Deliverable rows table pages marks output₀ spans₀) where
   pub going_first : Going rows table pages marks output₀ spans₀ 0 0 0 0 output₀ spans₀
   going_first = record {
-    rows_put = omega arith;
     bytes = [];
     words = [];
     output_is = refl;
@@ -50,18 +48,16 @@ module _ {rows : ℕ} {table : List Words} {pages : List ℕ} {marks : List Word
   }
 
   module _ {k from at n : ℕ} {output : List ℕ} {spans : List Words} (G : Going rows table pages marks output₀ spans₀ k from at n output spans) where
-    module _ (h : k < rows) where
-      row_is : drop k (take rows table) ≡ get_or table k [] ∷ drop (k + 1) (take rows table)
-      row_is =
-          let e : length (take rows table) ≡ rows = length-take-le rows table D.rows_in in
-          drop-cons (take rows table) k [] (omega (arith, e)) ∙ rw (add-one k, get_or-take rows table k [] h)
+    module _ (h : k < length (take rows table)) where
+      row_is : drop k (take rows table) ≡ get_or (take rows table) k [] ∷ drop (k + 1) (take rows table)
+      row_is = rw (add-one k) (drop-cons (take rows table) k [] h)
 
-      now : Left (pages_of (take rows table) pages marks) (get_or table k [] ∷ drop (k + 1) (take rows table)) pages marks k from at n G.bytes G.words
+      now : Left (pages_of (take rows table) pages marks) (get_or (take rows table) k [] ∷ drop (k + 1) (take rows table)) pages marks k from at n G.bytes G.words
       now = subst (λ (t : List Words). Left (pages_of (take rows table) pages marks) t pages marks k from at n G.bytes G.words) row_is G.left
 
-      pub going_turn : Turn (get_or table k []) pages marks k from at n output spans
+      pub going_turn : Turn (get_or (take rows table) k []) pages marks k from at n output spans
       going_turn =
-          let a = left_asks (pages_of (take rows table) pages marks) (get_or table k []) (drop (k + 1) (take rows table)) pages marks k from at n G.bytes G.words now in
+          let a = left_asks (pages_of (take rows table) pages marks) (get_or (take rows table) k []) (drop (k + 1) (take rows table)) pages marks k from at n G.bytes G.words now in
           record {
             page_there = a.page_there;
             marks_there = a.marks_there;
@@ -73,16 +69,15 @@ module _ {rows : ℕ} {table : List Words} {pages : List ℕ} {marks : List Word
 
       going_put : {middle output' : List ℕ} {spans' : List Words}
           → middle ≡ sets output at (lead k)
-          → output' ≡ sets middle (at + length (lead k)) (take (page_length (get_or table k [])) (drop from pages))
-          → spans' ≡ sets spans n (map (moved_words (at + length (lead k)) n) (take (span_count (get_or table k [])) (drop n marks)))
-          → Going rows table pages marks output₀ spans₀ (k + 1) (from + page_length (get_or table k [])) (at + length (lead k) + page_length (get_or table k [])) (n + span_count (get_or table k [])) output' spans'
+          → output' ≡ sets middle (at + length (lead k)) (take (page_length (get_or (take rows table) k [])) (drop from pages))
+          → spans' ≡ sets spans n (map (moved_words (at + length (lead k)) n) (take (span_count (get_or (take rows table) k [])) (drop n marks)))
+          → Going rows table pages marks output₀ spans₀ (k + 1) (from + page_length (get_or (take rows table) k [])) (at + length (lead k) + page_length (get_or (take rows table) k [])) (n + span_count (get_or (take rows table) k [])) output' spans'
       going_put e f g =
-          let page = take (page_length (get_or table k [])) (drop from pages) in
-          let own = map (moved_words (at + length (lead k)) n) (take (span_count (get_or table k [])) (drop n marks)) in
+          let page = take (page_length (get_or (take rows table) k [])) (drop from pages) in
+          let own = map (moved_words (at + length (lead k)) n) (take (span_count (get_or (take rows table) k [])) (drop n marks)) in
           let a : at ≡ 0 + length G.bytes = omega (arith, G.left.at_is) in
           let c : n ≡ 0 + length G.words = omega (arith, G.left.n_is) in
           record {
-            rows_put = omega arith;
             bytes = G.bytes ++ (lead k ++ page);
             words = G.words ++ own;
             output_is = f
@@ -94,27 +89,27 @@ module _ {rows : ℕ} {table : List Words} {pages : List ℕ} {marks : List Word
                 ∙ ap (λ (x : List Words). sets x n own) G.spans_are
                 ∙ ap (λ (i : ℕ). sets (sets spans₀ 0 G.words) i own) c
                 ∙ sym (put_both spans₀ 0 G.words own);
-            left = left_next (pages_of (take rows table) pages marks) (get_or table k []) (drop (k + 1) (take rows table)) pages marks k from at n G.bytes G.words now;
+            left = left_next (pages_of (take rows table) pages marks) (get_or (take rows table) k []) (drop (k + 1) (take rows table)) pages marks k from at n G.bytes G.words now;
           }
 
       -- a row's newline is put, then its page, from where that starts, and its spans
       pub going_next : {start : ℕ} {middle output' : List ℕ} {spans' : List Words}
           → (start ≡ at + length (lead k)) × (middle ≡ sets output at (lead k))
-          → output' ≡ sets middle start (take (page_length (get_or table k [])) (drop from pages))
-          → spans' ≡ sets spans n (map (moved_words start n) (take (span_count (get_or table k [])) (drop n marks)))
-          → Going rows table pages marks output₀ spans₀ (k + 1) (from + page_length (get_or table k [])) (start + page_length (get_or table k [])) (n + span_count (get_or table k [])) output' spans'
+          → output' ≡ sets middle start (take (page_length (get_or (take rows table) k [])) (drop from pages))
+          → spans' ≡ sets spans n (map (moved_words start n) (take (span_count (get_or (take rows table) k [])) (drop n marks)))
+          → Going rows table pages marks output₀ spans₀ (k + 1) (from + page_length (get_or (take rows table) k [])) (start + page_length (get_or (take rows table) k [])) (n + span_count (get_or (take rows table) k [])) output' spans'
       going_next {middle} {output'} {spans'} e =
           subst
-          (λ (s : ℕ). output' ≡ sets middle s (take (page_length (get_or table k [])) (drop from pages))
-          → spans' ≡ sets spans n (map (moved_words s n) (take (span_count (get_or table k [])) (drop n marks)))
-          → Going rows table pages marks output₀ spans₀ (k + 1) (from + page_length (get_or table k [])) (s + page_length (get_or table k [])) (n + span_count (get_or table k [])) output' spans')
+          (λ (s : ℕ). output' ≡ sets middle s (take (page_length (get_or (take rows table) k [])) (drop from pages))
+          → spans' ≡ sets spans n (map (moved_words s n) (take (span_count (get_or (take rows table) k [])) (drop n marks)))
+          → Going rows table pages marks output₀ spans₀ (k + 1) (from + page_length (get_or (take rows table) k [])) (s + page_length (get_or (take rows table) k [])) (n + span_count (get_or (take rows table) k [])) output' spans')
           (sym e.0)
           (going_put e.1)
 
-    pub going_last : k ≡ rows → Delivered rows table pages marks output₀ output spans₀ spans
+    pub going_last : length (take rows table) ≤ k → Delivered rows table pages marks output₀ output spans₀ spans
     going_last h =
         let ps = pages_of (take rows table) pages marks in
-        let none : drop k (take rows table) ≡ [] = drop_of_length-le (take rows table) {i = k} (omega (arith, length-take-le rows table D.rows_in)) in
+        let none : drop k (take rows table) ≡ [] = drop_of_length-le (take rows table) {i = k} h in
         let whole = left_last ps pages marks k from at n G.bytes G.words (subst (λ (t : List Words). Left ps t pages marks k from at n G.bytes G.words) none G.left) in
         let put : output ≡ sets output₀ 0 (whole_bytes ps) = G.output_is ∙ ap (λ (x : List ℕ). sets output₀ 0 x) whole.0 in
         let long : length G.words ≡ length (whole_marks ps) = sym (length-map G.words span_of) ∙ ap length whole.1 in

@@ -12,9 +12,10 @@ fn moved_parent(word: u32, n: usize) -> u64
     ensures { result ≡ moved_parent n word }
 {
     if word == 0 {
-        return 0;
+        0
+    } else {
+        u64::from(word) + n as u64
     }
-    word as u64 + n as u64
 }
 
 // A span of a row whose page starts at a position, with n spans before it.
@@ -22,10 +23,12 @@ fn moved(row: [u32; 4], at: usize, n: usize) -> [u64; 4]
     requires { (at < 2 ^ 32) × (n < 2 ^ 32) }
     ensures { result ≡ moved_words at n row }
 {
-    let start = row[1] as u64 + at as u64;
-    let end = row[2] as u64 + at as u64;
-    let parent = moved_parent(row[3], n);
-    [row[0] as u64, start, end, parent]
+    [
+        u64::from(row[0]),
+        u64::from(row[1]) + at as u64,
+        u64::from(row[2]) + at as u64,
+        moved_parent(row[3], n),
+    ]
 }
 
 // The newline before row k, but for the first; the answer is where its page starts.
@@ -40,27 +43,13 @@ fn put_lead(k: usize, output: &mut [u8], at: usize) -> usize
     at + 1
 }
 
-fn put_page(pages: &[u8], from: usize, len: usize, output: &mut [u8], at: usize)
-    requires { (from + len ≤ length pages.now) × (at + len ≤ length output.old) }
-    ensures { output.new ≡ sets output.old at (take len (drop from pages.now)) }
-{
-    let mut i: usize = 0;
-    while i < len {
-        output[at + i] = pages[from + i];
-        i += 1;
-    }
-}
-
 // A row's spans, moved. They stand in spans where they stand in marks.
 fn put_marks(marks: &[[u32; 4]], n: usize, count: usize, spans: &mut [[u64; 4]], at: usize)
     requires { (n + count ≤ length marks.now) × (n + count ≤ length spans.old) × (at < 2 ^ 32) × (n + count < 2 ^ 32) }
     ensures { spans.new ≡ sets spans.old n (map (moved_words at n) (take count (drop n marks.now))) }
 {
-    let mut i: usize = 0;
-    while i < count {
-        let row = marks[n + i];
-        spans[n + i] = moved(row, at, n);
-        i += 1;
+    for i in n..n + count {
+        spans[i] = moved(marks[i], at, n);
     }
 }
 
@@ -76,19 +65,17 @@ pub fn deliver(
     requires { Deliverable rows table.now pages.now marks.now output.old spans.old }
     ensures { Delivered rows table.now pages.now marks.now output.old output.new spans.old spans.new }
 {
-    let mut from: usize = 0;
-    let mut at: usize = 0;
-    let mut n: usize = 0;
-    let mut k: usize = 0;
-    while k < rows {
-        let len = table[k][1] as usize;
-        let count = table[k][2] as usize;
+    let mut from = 0;
+    let mut at = 0;
+    let mut n = 0;
+    for (k, row) in table[..rows].iter().enumerate() {
+        let len = row[1] as usize;
+        let count = row[2] as usize;
         let start = put_lead(k, output, at);
-        put_page(pages, from, len, output, start);
+        output[start..start + len].copy_from_slice(&pages[from..from + len]);
         put_marks(marks, n, count, spans, start);
         from += len;
         at = start + len;
         n += count;
-        k += 1;
     }
 }

@@ -2,41 +2,27 @@
 use mathlib.Core.Path.{◌≡◌, refl, sym, ap, subst, ◌∙◌}
 use mathlib.Core.Bool.{Bool, true, false, cond}
 use mathlib.Core.List.{List, [], ◌∷◌, ◌++◌, map, map-append}
-use Prim.Native.Nat.{ℕ, zero, suc, ◌+◌, ◌-◌, ◌*◌, ◌^◌, ◌≤◌, ◌<◌}
-use native.Mathlib.Nat.{not-le_of_lt, lt_of_le_of_lt, mul-zero, mul-le-mul, add-zero, add-suc}
+use Prim.Native.Nat.{ℕ, zero, suc, ◌+◌, ◌-◌, ◌^◌, ◌≤◌, ◌<◌}
+use native.Mathlib.Nat.{not-le_of_lt, lt_of_le_of_lt, add-zero, add-suc}
 use native.Mathlib.Numerals.{add-one}
 use native.Mathlib.Omega.{arith}
-use mir.Syntax.{w64}
-use mir.Val.{Fits}
 use lib.Dec.{ltb, eqb}
 use lib.ListN.{length, get_or, take}
 use lib.Seq.{take-suc, length-take-le}
 use borrow.Author.Tests.{ltb-true, ltb-false, eqb-true, eqb-false, eq-eqb, ne_eqb}
+use Rattle.std.specs.Prelude.{Result, Ok, Err}
 use Rattle.cost.specs.Cost.{Cost, zero_cost, add}
 use Rattle.cost.specs.Value.{cost, past, if_so, within, value, outcome}
 use Rattle.cost.specs.declared.Reason.{Reason}
 use Rattle.cost.specs.declared.Reason.TheVariants.{Overflow, Burden}
 use Rattle.cost.specs.declared.ConsumerCost.{ConsumerCost}
-use Rattle.cost.specs.declared.Costed.{Costed}
-use Rattle.cost.specs.declared.Costed.TheVariants.{Cost as Is, Failed}
 use Rattle.cost.proofs.Halves.{two_digits}
-use Rattle.layout.specs.Report.{newline_at}
 use Rattle.report.specs.Report.{remove_at}
 use Rattle.report.specs.Answers.{CostFits}
 use Rattle.report.specs.Memory.{Words, cost_at}
 use Rattle.report_rows.specs.Costs.{cost_sum, cost_but, CostTold, told, past as past_told}
 use Rattle.report_rows.specs.WholeCost.{same_cost, cost_nil, cost_cons, cost_append}
 use Rattle.report_rows.proofs.Removed.{removed_nil, removed_last, removed_other}
-
--- ---- newlines
-
-pub none_between : (n rows : ℕ) → rows ≡ 0 → zero_cost ≡ newline_at (n * (rows - 1))
-none_between n rows e = let f : rows - 1 ≡ 0 = omega arith in rw f (same_cost refl (sym (mul-zero n)))
-
-pub newlines_fit : (n k : ℕ) → n < 2 ^ 32 → k ≤ 1025 → Fits w64 (n * k)
-newlines_fit n k h l =
-    let a : n ≤ 4294967295 = omega arith in
-    let p : n * k ≤ 4294967295 * 1025 = mul-le-mul a l in omega (arith, p)
 
 -- ---- widths
 
@@ -124,17 +110,17 @@ module _ (t : List Words) (skip : ℕ) (start : Cost) (i : ℕ) (sum c : Cost) (
   next_is : add sum c ≡ add start (first_but t skip (suc i))
   next_is = rw (so.same, is, first_next t skip i h) (same_cost (omega arith) (omega arith))
 
-  pub goes_on : (r : Costed) (v : ConsumerCost) → outcome r ≡ within (add sum c) → r ≡ Is v → Running t skip start (i + 1) (value v)
+  pub goes_on : (r : Result ConsumerCost Reason) (v : ConsumerCost) → outcome r ≡ within (add sum c) → r ≡ Ok v → Running t skip start (i + 1) (value v)
   goes_on r v e q =
       let a : Added (add sum c) (value v) = added (add sum c) (value v) (sym (ap outcome q) ∙ e) in
       rw (add-one i) (record { same = a.same ∙ next_is; fits = subst CostFits (sym a.same) a.fits })
 
   -- past its widths already, and the rest makes it no smaller
-  pub stops : (n : ℕ) (r : Costed) (x : Reason) → outcome r ≡ within (add sum c) → r ≡ Failed x → i < n → n ≤ length t → CostTold (add start (first_but t skip n)) (Failed x)
+  pub stops : (n : ℕ) (r : Result ConsumerCost Reason) (x : Reason) → outcome r ≡ within (add sum c) → r ≡ Err x → i < n → n ≤ length t → CostTold (add start (first_but t skip n)) (Err x)
   stops n r x e q k l = past_told λ f. not_added (add sum c) x (sym (ap outcome q) ∙ e)
       (let m : suc i + (n - suc i) ≡ n = omega arith in
       let g : Grows (first_but t skip (suc i)) (first_but t skip n) = rw m at (first_grows t skip (suc i) (n - suc i) (omega arith)) in
       rw next_is (record { overflow = lt_of_le_of_lt (omega (arith, g.overflow)) f.overflow; burden = omega (arith, f.burden, g.burden) }))
 
-pub all_told : (t : List Words) (skip : ℕ) (start : Cost) (i n : ℕ) (v : ConsumerCost) → Running t skip start i (value v) → i ≡ n → CostTold (add start (first_but t skip n)) (Is v)
+pub all_told : (t : List Words) (skip : ℕ) (start : Cost) (i n : ℕ) (v : ConsumerCost) → Running t skip start i (value v) → i ≡ n → CostTold (add start (first_but t skip n)) (Ok v)
 all_told t skip start i n v so e = rw (← e) (told so.same (subst CostFits so.same so.fits))

@@ -1,7 +1,7 @@
 -- Laws for the loops that sum over rows.
-use mathlib.Core.Path.{◌≡◌, sym}
+use mathlib.Core.Path.{◌≡◌, refl, sym}
 use mathlib.Core.List.{List, []}
-use Prim.Native.Nat.{ℕ, ◌+◌, ◌-◌, ◌≤◌, ◌<◌}
+use Prim.Native.Nat.{ℕ, ◌+◌, ◌≤◌, ◌<◌}
 use native.Mathlib.Omega.{arith}
 use lib.ListN.{length, get_or, take}
 use Rattle.report.specs.Memory.{Words, file_length, page_length, span_count, sum_of}
@@ -28,6 +28,19 @@ turn t i f p m e h s r = record {
 pub so_far : (g : Words → ℕ) (t : List Words) (i n s x : ℕ) → i < n → n ≤ length t → s ≡ sum_of g (take i t) → x ≡ g (get_or t i []) → s + x ≤ sum_of g (take n t)
 so_far g t i n s x h k e f = omega (arith, sum_next g t i (omega arith), sum_prefix g (i + 1) n t (omega arith))
 
--- so one that passes its store is told at once
-pub too_many : (g : Words → ℕ) (t : List Words) (i n s x limit : ℕ) → i < n → n ≤ length t → s ≡ sum_of g (take i t) → x ≡ g (get_or t i []) → limit - s < x → sum_of g (take n t) ≤ limit → ⊥
-too_many g t i n s x limit h k e f p q = let l = so_far g t i n s x h k e f in omega arith
+-- what is left of stores of these lengths after the rows t
+pub record Left (t : List Words) (files pages marks : ℕ) (left : Totals) : Type 0 where
+  pub files_left : left.files + sum_of file_length t ≡ files
+  pub pages_left : left.pages + sum_of page_length t ≡ pages
+  pub marks_left : left.marks + sum_of span_count t ≡ marks
+
+pub all_left : (files pages marks : ℕ) → Left [] files pages marks (sums files pages marks)
+all_left files pages marks = record {
+  files_left = omega (arith, sum_nil file_length);
+  pages_left = omega (arith, sum_nil page_length);
+  marks_left = omega (arith, sum_nil span_count);
+}
+
+-- so a row that takes more than what is left is told at once
+pub too_many : (g : Words → ℕ) (t : List Words) (i n left x limit : ℕ) → i < n → n ≤ length t → left + sum_of g (take i t) ≡ limit → x ≡ g (get_or t i []) → left < x → sum_of g (take n t) ≤ limit → ⊥
+too_many g t i n left x limit h k e f p q = let l = so_far g t i n (sum_of g (take i t)) x h k refl f in omega arith

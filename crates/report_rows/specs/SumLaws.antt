@@ -1,5 +1,5 @@
 -- Laws of sums over rows: of parts, of a row more, of a row less; where a row starts; what an answer of `sum_rows` says.
-use Rattle.std.specs.Prelude.{◌≡◌, ℕ, suc, ◌+◌, ◌^◌, ◌≤◌, ◌<◌, length, get_or, take, drop}
+use Rattle.std.specs.Prelude.{◌≡◌, Option, Some, None, ℕ, suc, ◌+◌, ◌^◌, ◌≤◌, ◌<◌, length, get_or, take, drop}
 use Rattle.std.proofs.Math.Path.{refl}
 use Rattle.std.proofs.Common.{sym, ap, subst, ◌∙◌, add-one, take-append-drop, take-take, take-suc}
 use mathlib.Core.List.{List, [], ◌∷◌, ◌++◌}
@@ -9,8 +9,6 @@ use Rattle.report.specs.Report.{insert_at, remove_at}
 use Rattle.report.specs.Memory.{Words, file_length, page_length, span_count, sum_of, Sound}
 use Rattle.report_rows.specs.Sums.{Totalled, Summing, sound, unsound, Starting}
 use Rattle.report_rows.specs.declared.Totals.{Totals}
-use Rattle.report_rows.specs.declared.Summed.{Summed}
-use Rattle.report_rows.specs.declared.Summed.TheVariants.{Sound as Holds, Unsound}
 
 module _ (g : Words → ℕ) where
   pub sum_nil : sum_of g [] ≡ 0
@@ -63,14 +61,14 @@ starting {n} {table} s f p m place h = record {
 
 -- what an answer says of the memory
 module _ {n : ℕ} {table : List Words} {files pages marks : ℕ} where
-  pub is_sound : {r : Summed} {s : Totals} → Summing n table files pages marks r → r ≡ Holds s → Sound n table files pages marks
+  pub is_sound : {r : Option Totals} {s : Totals} → Summing n table files pages marks r → r ≡ Some s → Sound n table files pages marks
   is_sound (sound p t) e = p
   is_sound (unsound u) e = let z : ◌≡◌ {A = ℕ} 0 1 = cc in absurd (omega arith)
 
-  pub is_totalled : {r : Summed} {s : Totals} → Summing n table files pages marks r → r ≡ Holds s → Totalled (take n table) s
+  pub is_totalled : {r : Option Totals} {s : Totals} → Summing n table files pages marks r → r ≡ Some s → Totalled (take n table) s
   is_totalled {s = s} (sound {s = q} p t) e = let f : q ≡ s = cc in subst (λ (z : Totals). Totalled (take n table) z) f t
   is_totalled (unsound u) e = let z : ◌≡◌ {A = ℕ} 0 1 = cc in absurd (omega arith)
 
-  pub is_unsound : {r : Summed} → Summing n table files pages marks r → r ≡ Unsound → Sound n table files pages marks → ⊥
+  pub is_unsound : {r : Option Totals} → Summing n table files pages marks r → r ≡ None → Sound n table files pages marks → ⊥
   is_unsound (sound p t) e = let z : ◌≡◌ {A = ℕ} 0 1 = cc in absurd (omega arith)
   is_unsound (unsound u) e = u

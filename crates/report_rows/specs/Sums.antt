@@ -1,10 +1,8 @@
 -- What a table's rows sum to, and where a row starts in each store.
-use Rattle.std.specs.Prelude.{◌≡◌, List, ℕ, ◌^◌, ◌≤◌, ◌<◌, length, take}
+use Rattle.std.specs.Prelude.{◌≡◌, Option, Some, None, List, ℕ, ◌^◌, ◌≤◌, ◌<◌, length, take}
 use Rattle.report.specs.Memory.{Words, file_length, page_length, span_count, sum_of, Sound}
 use Rattle.report_rows.specs.declared.Totals.{Totals}
 use Rattle.report_rows.specs.declared.Entry.{Entry}
-use Rattle.report_rows.specs.declared.Summed.{Summed}
-use Rattle.report_rows.specs.declared.Summed.TheVariants.{Sound as Holds, Unsound}
 
 pub record Totalled (t : List Words) (s : Totals) : Type 0 where
   pub files_are : s.files ≡ sum_of file_length t
@@ -12,9 +10,9 @@ pub record Totalled (t : List Words) (s : Totals) : Type 0 where
   pub marks_are : s.marks ≡ sum_of span_count t
 
 -- whether memory with stores of these lengths holds a report of n rows
-pub data Summing (n : ℕ) (table : List Words) (files pages marks : ℕ) : Summed → Type 0 where
-  sound : {s : Totals} → Sound n table files pages marks → Totalled (take n table) s → Summing n table files pages marks (Holds s)
-  unsound : (Sound n table files pages marks → ⊥) → Summing n table files pages marks Unsound
+pub data Summing (n : ℕ) (table : List Words) (files pages marks : ℕ) : Option Totals → Type 0 where
+  sound : {s : Totals} → Sound n table files pages marks → Totalled (take n table) s → Summing n table files pages marks (Some s)
+  unsound : (Sound n table files pages marks → ⊥) → Summing n table files pages marks None
 
 -- the rows before a place are there, and what they sum to has its place in a word
 pub record Starting (place : ℕ) (table : List Words) : Type 0 where

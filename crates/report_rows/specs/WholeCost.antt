@@ -1,12 +1,10 @@
 -- Laws of costs summed: of parts, of a cost more, and the whole page's cost by them; what a told cost says.
-use Rattle.std.specs.Prelude.{◌≡◌, refl, List, [], ◌∷◌, ◌++◌, ℕ, suc, ◌-◌, ◌*◌, length, take, drop}
+use Rattle.std.specs.Prelude.{◌≡◌, Result, Ok, Err, refl, List, [], ◌∷◌, ◌++◌, ℕ, suc, ◌-◌, ◌*◌, length, take, drop}
 use Rattle.std.proofs.Common.{sym, ap, ap₂, subst, ◌∙◌, mul-zero, mul-suc, arith, take-append-drop}
 use Rattle.cost.specs.Cost.{Cost, zero_cost, add}
 use Rattle.cost.specs.Value.{value}
 use Rattle.cost.specs.declared.Reason.{Reason}
 use Rattle.cost.specs.declared.ConsumerCost.{ConsumerCost}
-use Rattle.cost.specs.declared.Costed.{Costed}
-use Rattle.cost.specs.declared.Costed.TheVariants.{Cost as Is, Failed}
 use Rattle.layout.specs.Report.{newline_at, costs_below, whole_cost}
 use Rattle.report.specs.Report.{insert_at}
 use Rattle.report.specs.Answers.{CostFits}
@@ -53,14 +51,14 @@ whole_cost_is n (c ∷ cs) =
 
 -- what an answer says of the cost
 module _ {c : Cost} where
-  pub told_value : {r : Costed} {v : ConsumerCost} → CostTold c r → r ≡ Is v → value v ≡ c
+  pub told_value : {r : Result ConsumerCost Reason} {v : ConsumerCost} → CostTold c r → r ≡ Ok v → value v ≡ c
   told_value {v = v} (told {v = w} e f) q = let p : w ≡ v = cc in subst (λ (z : ConsumerCost). value z ≡ c) p e
   told_value (past n) q = let z : ◌≡◌ {A = ℕ} 0 1 = cc in absurd (omega arith)
 
-  pub told_fits : {r : Costed} {v : ConsumerCost} → CostTold c r → r ≡ Is v → CostFits c
+  pub told_fits : {r : Result ConsumerCost Reason} {v : ConsumerCost} → CostTold c r → r ≡ Ok v → CostFits c
   told_fits (told e f) q = f
   told_fits (past n) q = let z : ◌≡◌ {A = ℕ} 0 1 = cc in absurd (omega arith)
 
-  pub told_past : {r : Costed} {x : Reason} → CostTold c r → r ≡ Failed x → CostFits c → ⊥
+  pub told_past : {r : Result ConsumerCost Reason} {x : Reason} → CostTold c r → r ≡ Err x → CostFits c → ⊥
   told_past (told e f) q = let z : ◌≡◌ {A = ℕ} 0 1 = cc in absurd (omega arith)
   told_past (past n) q = n

@@ -10,7 +10,7 @@ ghost use Rattle.report.specs.Memory.{cost_at};
 ghost use Rattle.report_rows.specs.Sums.{Totalled, Summing, Starting, EntryIs};
 ghost use Rattle.report_rows.specs.Costs.{cost_sum, cost_but, CostTold};
 
-use cost::{ConsumerCost, Costed};
+use cost::{ConsumerCost, Reason};
 
 // Sums over rows: bytes of files, bytes of pages, spans.
 #[derive(Clone, Copy)]
@@ -18,13 +18,6 @@ pub struct Totals {
     pub files: usize,
     pub pages: usize,
     pub marks: usize,
-}
-
-// What the rows of a sound memory sum to.
-#[derive(Clone, Copy)]
-pub enum Summed {
-    Sound(Totals),
-    Unsound,
 }
 
 // A row's own numbers.
@@ -47,40 +40,34 @@ pub fn entry_at(table: &[[u64; 8]], place: usize) -> Entry
     }
 }
 
-// Whether the memory holds a report of so many rows, and what its rows sum to. files, pages, marks: how long the stores are.
-pub fn sum_rows(rows: usize, table: &[[u64; 8]], files: usize, pages: usize, marks: usize) -> Summed
+// What the rows sum to, if the memory holds a report of so many rows. files, pages, marks: how long the stores are.
+pub fn sum_rows(
+    rows: usize,
+    table: &[[u64; 8]],
+    files: usize,
+    pages: usize,
+    marks: usize,
+) -> Option<Totals>
     ensures { Summing rows table.now files pages marks result }
 {
-    if 1024 < rows {
-        return Summed::Unsound;
+    if 1024 < rows || table.len() < 1024 {
+        return None;
     }
-    if table.len() < 1024 {
-        return Summed::Unsound;
-    }
-    let mut file_sum: usize = 0;
-    let mut page_sum: usize = 0;
-    let mut mark_sum: usize = 0;
-    let mut i: usize = 0;
-    while i < rows {
+    let mut left = Totals {
+        files,
+        pages,
+        marks,
+    };
+    for i in 0..rows {
         let row = entry_at(table, i);
-        if files - file_sum < row.file {
-            return Summed::Unsound;
-        }
-        if pages - page_sum < row.page {
-            return Summed::Unsound;
-        }
-        if marks - mark_sum < row.spans {
-            return Summed::Unsound;
-        }
-        file_sum = file_sum + row.file;
-        page_sum = page_sum + row.page;
-        mark_sum = mark_sum + row.spans;
-        i += 1;
+        left.files = left.files.checked_sub(row.file)?;
+        left.pages = left.pages.checked_sub(row.page)?;
+        left.marks = left.marks.checked_sub(row.spans)?;
     }
-    Summed::Sound(Totals {
-        files: file_sum,
-        pages: page_sum,
-        marks: mark_sum,
+    Some(Totals {
+        files: files - left.files,
+        pages: pages - left.pages,
+        marks: marks - left.marks,
     })
 }
 
@@ -89,22 +76,18 @@ pub fn starts(table: &[[u64; 8]], place: usize) -> Totals
     requires { Starting place table.now }
     ensures { Totalled (take place table.now) result }
 {
-    let mut files: usize = 0;
-    let mut pages: usize = 0;
-    let mut marks: usize = 0;
-    let mut i: usize = 0;
-    while i < place {
+    let mut sums = Totals {
+        files: 0,
+        pages: 0,
+        marks: 0,
+    };
+    for i in 0..place {
         let row = entry_at(table, i);
-        files = files + row.file;
-        pages = pages + row.page;
-        marks = marks + row.spans;
-        i += 1;
+        sums.files += row.file;
+        sums.pages += row.page;
+        sums.marks += row.spans;
     }
-    Totals {
-        files: files,
-        pages: pages,
-        marks: marks,
-    }
+    sums
 }
 
 // The cost of a row, but of the one at `skip` none.
@@ -124,25 +107,20 @@ fn cost_but(table: &[[u64; 8]], skip: usize, place: usize) -> ConsumerCost
 }
 
 // The cost of the rows but the one at `skip`, added to a cost. There is none where it is past its widths.
-pub fn cost_after(table: &[[u64; 8]], rows: usize, skip: usize, start: ConsumerCost) -> Costed
+pub fn cost_after(
+    table: &[[u64; 8]],
+    rows: usize,
+    skip: usize,
+    start: ConsumerCost,
+) -> Result<ConsumerCost, Reason>
     requires { rows ≤ length table.now }
     ensures { CostTold (add (value start) (cost_sum (map cost_at (remove_at skip 1 (take rows table.now))))) result }
 {
     let mut sum = start;
-    let mut i: usize = 0;
-    while i < rows {
-        let cost = cost_but(table, skip, i);
-        match sum.checked_add(cost) {
-            Costed::Cost(next) => {
-                sum = next;
-            }
-            Costed::Failed(reason) => {
-                return Costed::Failed(reason);
-            }
-        }
-        i += 1;
+    for i in 0..rows {
+        sum = sum.checked_add(cost_but(table, skip, i))?;
     }
-    Costed::Cost(sum)
+    Ok(sum)
 }
 
 // The newline costs between so many rows.
@@ -150,13 +128,8 @@ pub fn between(newline_cost: u32, rows: usize) -> ConsumerCost
     requires { rows ≤ 1025 }
     ensures { value result ≡ newline_at (newline_cost * (rows - 1)) }
 {
-    if rows == 0 {
-        return ConsumerCost::ZERO;
-    }
-    let burden = newline_cost as u64 * (rows - 1) as u64;
     ConsumerCost {
-        overflow_high: 0,
-        overflow_low: 0,
-        burden: burden,
+        burden: newline_cost as u64 * rows.saturating_sub(1) as u64,
+        ..ConsumerCost::ZERO
     }
 }

@@ -14,10 +14,11 @@ use Rattle.stats.specs.declared.SolveStats.{SolveStats}
 use Rattle.solve_workspace.specs.declared.Bounds.{Bounds}
 use Rattle.solve_workspace.specs.declared.Needs.{Needs}
 use Rattle.cost.specs.declared.ConsumerCost.{ConsumerCost}
-use Rattle.render.specs.declared.page.Rendered.{Rendered}
-use Rattle.render.specs.declared.page.Rendered.TheVariants.{Page as Paged, Refused as Denied}
-use Rattle.render.specs.Rendered.{counts_of}
-use Rattle.render.proofs.Renders.{none_counted}
+use Rattle.std.specs.Prelude.{Result, Ok, Err}
+use Rattle.render.specs.declared.page.Page.{Page as Paged}
+use Rattle.render.specs.declared.page.Refusal.{Refusal}
+use Rattle.render.specs.Rendered.{Rendered, page_with, refusal_with, counts_of}
+use Rattle.stats.specs.Counts.{none_counted}
 use Rattle.report.specs.Report.{Row, insert_at, remove_at, pages_in}
 use Rattle.report.specs.Memory.{Words, page_length, span_count, cost_at, rows_of, sum_of, Sound}
 use Rattle.report_rows.specs.SumLaws.{sum_remove}
@@ -28,9 +29,8 @@ use Rattle.report_gate.specs.declared.Head.{Head}
 use Rattle.report_gate.specs.Gates.{StoresLent}
 use Rattle.report_settle.specs.declared.Step.{Step}
 use Rattle.report_settle.specs.declared.Whole.{Whole}
-use Rattle.report_settle.specs.declared.Verdict.{Verdict}
-use Rattle.report_settle.specs.declared.Verdict.TheVariants.{Fits, Lacks}
-use Rattle.report_settle.specs.Verdicts.{Judged, Summable, VerdictRoom, Removable, refusal_of, page_of}
+use Rattle.report_settle.specs.declared.Lack.{Lack}
+use Rattle.report_settle.specs.Verdicts.{lack_of, Judged, Summable, VerdictRoom, Removable, refusal_of, page_of}
 use Rattle.report_settle.specs.Settled.{stores, Inserting, InsertionSettled, Removing, RemovalSettled, row_page, Settling, Settled}
 use Rattle.report_settle.proofs.Wholes.{Sums, insertion_sums, removal_sums, pages_insert, pages_remove}
 use Rattle.report_settle.proofs.Settling.{passing, settles_lacks, deliverable, settles_fits, unaltered}
@@ -39,7 +39,7 @@ use Rattle.report_settle.proofs.Settling.{passing, settles_lacks, deliverable, s
 abbrev pub none_needed : Needs
 none_needed = record { stack = 0; memo = 0; kept = 0; frontier = 0; plans = 0; visit = 0; depth = 0; output = 0; spans = 0 }
 
-pub verdict_is : {c : Cost} {o s n m x y : ℕ} {v : Verdict} → n ≡ x → m ≡ y → Judged c o s n m v → Judged c o s x y v
+pub verdict_is : {c : Cost} {o s n m x y : ℕ} {v : Result Whole Lack} → n ≡ x → m ≡ y → Judged c o s n m v → Judged c o s x y v
 verdict_is {c} {o} {s} {n} {m} {x} {y} {v} e f j = subst (λ (k : ℕ). Judged c o s x k v) f (subst (λ (k : ℕ). Judged c o s k m v) e j)
 
 -- stores keep their lengths
@@ -79,12 +79,12 @@ module _ {place : ℕ} {b : Bounds} {h : Head} {page : RowPage} {stats : SolveSt
       sums_as (pages_insert t files₀ pages₀ marks₀ place (row_in page file row row_spans)) refl (omega (arith, x, rows_there)) (omega (arith, y))
       (insertion_sums h.newline_cost t pages₀ marks₀ i.room.sound.pages_in i.room.sound.marks_in place (omega (arith, i.room.place_in, rows_there)) (row_in page file row row_spans).page)
 
-  module _ {v : Verdict} (j : Judged (whole_cost h.newline_cost (insert_at place (value page.cost ∷ []) (map cost_at (take h.rows table₀)))) b.output b.spans (sum_of page_length (take h.rows table₀) + page.length + h.rows) (sum_of span_count (take h.rows table₀) + page.spans) v) where
-    pub in_lacks : (number needed : ℕ) → v ≡ Lacks number needed → (needs : Needs) (r : Step) → r ≡ refusal_of number needed stats h
+  module _ {v : Result Whole Lack} (j : Judged (whole_cost h.newline_cost (insert_at place (value page.cost ∷ []) (map cost_at (take h.rows table₀)))) b.output b.spans (sum_of page_length (take h.rows table₀) + page.length + h.rows) (sum_of span_count (take h.rows table₀) + page.spans) v) where
+    pub in_lacks : (number needed : ℕ) → v ≡ Err (lack_of number needed) → (needs : Needs) (r : Step) → r ≡ refusal_of number needed stats h
         → InsertionSettled place b h page stats needs file row row_spans table₀ table₀ files₀ files₀ pages₀ pages₀ marks₀ marks₀ output₀ output₀ spans₀ spans₀ r
     in_lacks number needed e needs r q = settles_lacks b h come stats needs in_sums i.no_fit_checks number needed e j r q table₀ files₀ pages₀ marks₀ output₀ spans₀ i.room.sound
 
-    pub taking_in : (w : Whole) → v ≡ Fits w → TakingIn place h.rows page file row row_spans table₀ files₀ pages₀ marks₀
+    pub taking_in : (w : Whole) → v ≡ Ok w → TakingIn place h.rows page file row row_spans table₀ files₀ pages₀ marks₀
     taking_in w e =
         let p = passing w e j in
         record {
@@ -99,7 +99,7 @@ module _ {place : ℕ} {b : Bounds} {h : Head} {page : RowPage} {stats : SolveSt
           small = i.there.small;
         }
 
-    module _ (w : Whole) (e : v ≡ Fits w) (bo : b.output < 2 ^ 32) (bs : b.spans < 2 ^ 32) {table : List Words} {files pages : List ℕ} {marks : List Words} (lp : length pages ≡ length pages₀) (lm : length marks ≡ length marks₀)
+    module _ (w : Whole) (e : v ≡ Ok w) (bo : b.output < 2 ^ 32) (bs : b.spans < 2 ^ 32) {table : List Words} {files pages : List ℕ} {marks : List Words} (lp : length pages ≡ length pages₀) (lm : length marks ≡ length marks₀)
         (k : TakenIn place h.rows page file row row_spans table₀ table files₀ files pages₀ pages marks₀ marks) where
       pub in_deliverable : Deliverable (h.rows + 1) table pages marks output₀ spans₀
       in_deliverable = deliverable b h come stats (none_needed) in_sums i.no_fit_checks w (passing w e j) bo bs (h.rows + 1) table files pages marks k.sound k.rows_are output₀ spans₀ (stores_as files₀ files pages₀ pages marks₀ marks output₀ spans₀ lp lm i.room.lent)
@@ -127,12 +127,12 @@ module _ {place : ℕ} {b : Bounds} {h : Head} {table₀ : List Words} {files₀
       sums_as (pages_remove t files₀ pages₀ marks₀ place) refl (ap (λ (x : ℕ). sum_of page_length (remove_at place 1 t) + (x - 1 - 1)) rows_here) refl
       (removal_sums h.newline_cost t pages₀ marks₀ i.sound.pages_in i.sound.marks_in place (omega (arith, i.place_in, rows_here)))
 
-  module _ {v : Verdict} (j : Judged (whole_cost h.newline_cost (remove_at place 1 (map cost_at (take h.rows table₀)))) b.output b.spans (sum_of page_length (remove_at place 1 (take h.rows table₀)) + (h.rows - 1 - 1)) (sum_of span_count (remove_at place 1 (take h.rows table₀))) v) where
-    pub out_lacks : (number needed : ℕ) → v ≡ Lacks number needed → (r : Step) → r ≡ refusal_of number needed none_counted h
+  module _ {v : Result Whole Lack} (j : Judged (whole_cost h.newline_cost (remove_at place 1 (map cost_at (take h.rows table₀)))) b.output b.spans (sum_of page_length (remove_at place 1 (take h.rows table₀)) + (h.rows - 1 - 1)) (sum_of span_count (remove_at place 1 (take h.rows table₀))) v) where
+    pub out_lacks : (number needed : ℕ) → v ≡ Err (lack_of number needed) → (r : Step) → r ≡ refusal_of number needed none_counted h
         → RemovalSettled place b h table₀ table₀ files₀ files₀ pages₀ pages₀ marks₀ marks₀ output₀ output₀ spans₀ spans₀ r
     out_lacks number needed e r q = settles_lacks b h left none_counted none_needed out_sums refl number needed e j r q table₀ files₀ pages₀ marks₀ output₀ spans₀ i.sound
 
-    module _ (w : Whole) (e : v ≡ Fits w) (bo : b.output < 2 ^ 32) (bs : b.spans < 2 ^ 32) {table : List Words} {files pages : List ℕ} {marks : List Words} (lp : length pages ≡ length pages₀) (lm : length marks ≡ length marks₀)
+    module _ (w : Whole) (e : v ≡ Ok w) (bo : b.output < 2 ^ 32) (bs : b.spans < 2 ^ 32) {table : List Words} {files pages : List ℕ} {marks : List Words} (lp : length pages ≡ length pages₀) (lm : length marks ≡ length marks₀)
         (k : TakenOut place h.rows table₀ table files₀ files pages₀ pages marks₀ marks) where
       pub out_deliverable : Deliverable (h.rows - 1) table pages marks output₀ spans₀
       out_deliverable = deliverable b h left none_counted none_needed out_sums refl w (passing w e j) bo bs (h.rows - 1) table files pages marks k.sound k.rows_are output₀ spans₀ (stores_as files₀ files pages₀ pages marks₀ marks output₀ spans₀ lp lm i.lent)
@@ -150,44 +150,35 @@ row_gone g table rows place h l =
 -- ---- whatever the single call has answered
 
 module _ {place : ℕ} {b : Bounds} {h : Head} {a : Rendered} {file row : List ℕ} {row_spans table₀ : List Words} {files₀ pages₀ : List ℕ} {marks₀ : List Words} {output₀ : List ℕ} {spans₀ : List Words} (i : Settling place b h a file row row_spans table₀ files₀ pages₀ marks₀ output₀ spans₀) where
-  pub settling_in : (c : ConsumerCost) (n m : ℕ) (k : SolveStats) (q : Needs) → a ≡ Paged c n m k q → Inserting place b h (row_page c n m) k file row row_spans table₀ files₀ pages₀ marks₀ output₀ spans₀
-  settling_in c n m k q e = record { room = i.room; there = i.page c n m k q e; no_fit_checks = subst (λ (x : Rendered). (counts_of x).fit_checks ≡ 0) e i.no_fit_checks }
+  pub settling_in : (p : Paged) → a ≡ Ok p → Inserting place b h (row_page p.cost p.length p.spans) p.stats file row row_spans table₀ files₀ pages₀ marks₀ output₀ spans₀
+  settling_in p e = record { room = i.room; there = i.page p.cost p.length p.spans p.stats p.needs e; no_fit_checks = subst (λ (x : Rendered). (counts_of x).fit_checks ≡ 0) e i.no_fit_checks }
 
   -- a refusal
-  pub settled_refused : (n needed : ℕ) (k : SolveStats) → a ≡ Denied n needed k → (r : Step) → r ≡ refusal_of n needed k h
+  pub settled_refused : (d : Refusal) → a ≡ Err d → (r : Step) → r ≡ refusal_of d.number d.needed d.stats h
       → Settled place b h a file row row_spans table₀ table₀ files₀ files₀ pages₀ pages₀ marks₀ marks₀ output₀ output₀ spans₀ spans₀ r
-  settled_refused n needed k e r q = record {
-    refused = λ x y z f. let s = same_refusal a n needed k x y z e f in (subst (λ (w : Step). r ≡ w) (ap₃ s) q, unaltered r q table₀ files₀ pages₀ marks₀, refl, refl);
-    paged = λ c x m z w f. absurd (not_both a n needed k c x m z w e f);
+  settled_refused d e r q = record {
+    refused = λ x y z f. let s = same_refusal d x y z e f in (q ∙ ap (λ (w : Refusal). record { answer = Err w; head = h }) s, unaltered r q table₀ files₀ pages₀ marks₀, refl, refl);
+    paged = λ c x m z w f. absurd (not_both d c x m z w e f);
   }
     where
-      ap₃ : {x y : ℕ} {z : SolveStats} → Denied n needed k ≡ Denied x y z → refusal_of n needed k h ≡ refusal_of x y z h
-      ap₃ s = ap (λ (w : Rendered). record { answer = w; head = h }) s
+      same_refusal : (d : Refusal) (x y : ℕ) (z : SolveStats) → a ≡ Err d → a ≡ Err (refusal_with x y z) → d ≡ refusal_with x y z
+      same_refusal d x y z e f = cc
 
-      same_refusal : (a : Rendered) (n needed : ℕ) (k : SolveStats) (x y : ℕ) (z : SolveStats) → a ≡ Denied n needed k → a ≡ Denied x y z → Denied n needed k ≡ Denied x y z
-      same_refusal a n needed k x y z e f = sym e ∙ f
-
-      not_both : (a : Rendered) (n needed : ℕ) (k : SolveStats) (c : ConsumerCost) (x m : ℕ) (z : SolveStats) (w : Needs) → a ≡ Denied n needed k → a ≡ Paged c x m z w → ⊥
-      not_both a n needed k c x m z w e f = let z : ◌≡◌ {A = ℕ} 0 1 = cc in absurd (omega arith)
+      not_both : (d : Refusal) (c : ConsumerCost) (x m : ℕ) (z : SolveStats) (w : Needs) → a ≡ Err d → a ≡ Ok (page_with c x m z w) → ⊥
+      not_both d c x m z w e f = cc
 
   -- a page
-  pub settled_paged : {table : List Words} {files pages : List ℕ} {marks : List Words} {output : List ℕ} {spans : List Words} (c : ConsumerCost) (n m : ℕ) (k : SolveStats) (q : Needs) → a ≡ Paged c n m k q → {r : Step}
-      → InsertionSettled place b h (row_page c n m) k q file row row_spans table₀ table files₀ files pages₀ pages marks₀ marks output₀ output spans₀ spans r
+  pub settled_paged : {table : List Words} {files pages : List ℕ} {marks : List Words} {output : List ℕ} {spans : List Words} (p : Paged) → a ≡ Ok p → {r : Step}
+      → InsertionSettled place b h (row_page p.cost p.length p.spans) p.stats p.needs file row row_spans table₀ table files₀ files pages₀ pages marks₀ marks output₀ output spans₀ spans r
       → Settled place b h a file row row_spans table₀ table files₀ files pages₀ pages marks₀ marks output₀ output spans₀ spans r
-  settled_paged {table} {files} {pages} {marks} {output} {spans} c n m k q e {r} s = record {
-    refused = λ x y z f. absurd (not_both a c n m k q x y z e f);
-    paged = λ d x y z w f. same d x y z w f;
+  settled_paged {table} {files} {pages} {marks} {output} {spans} p e {r} s = record {
+    refused = λ x y z f. absurd (not_both p x y z e f);
+    paged = λ c n m k q f.
+        subst (λ (o : Paged). InsertionSettled place b h (row_page o.cost o.length o.spans) o.stats o.needs file row row_spans table₀ table files₀ files pages₀ pages marks₀ marks output₀ output spans₀ spans r) (same_page p c n m k q e f) s;
   }
     where
-      not_both : (a : Rendered) (c : ConsumerCost) (n m : ℕ) (k : SolveStats) (q : Needs) (x y : ℕ) (z : SolveStats) → a ≡ Paged c n m k q → a ≡ Denied x y z → ⊥
-      not_both a c n m k q x y z e f = let z : ◌≡◌ {A = ℕ} 0 1 = cc in absurd (omega arith)
+      not_both : (p : Paged) (x y : ℕ) (z : SolveStats) → a ≡ Ok p → a ≡ Err (refusal_with x y z) → ⊥
+      not_both p x y z e f = cc
 
-      same : (d : ConsumerCost) (x y : ℕ) (z : SolveStats) (w : Needs) → a ≡ Paged d x y z w → InsertionSettled place b h (row_page d x y) z w file row row_spans table₀ table files₀ files pages₀ pages marks₀ marks output₀ output spans₀ spans r
-      same d x y z w f =
-          let g : Paged c n m k q ≡ Paged d x y z w = sym e ∙ f in
-          let c₁ : c ≡ d = cc in
-          let c₂ : n ≡ x = cc in
-          let c₃ : m ≡ y = cc in
-          let c₄ : k ≡ z = cc in
-          let c₅ : q ≡ w = cc in
-          rw (← c₁, ← c₂, ← c₃, ← c₄, ← c₅) s
+      same_page : (p : Paged) (c : ConsumerCost) (n m : ℕ) (k : SolveStats) (q : Needs) → a ≡ Ok p → a ≡ Ok (page_with c n m k q) → p ≡ page_with c n m k q
+      same_page p c n m k q e f = cc

@@ -5,12 +5,11 @@ use Prim.Native.Nat.{ℕ, ◌+◌, ◌-◌, ◌*◌, ◌≤◌, ◌<◌}
 use native.Mathlib.Nat.{lt_of_le_of_lt}
 use native.Mathlib.Omega.{arith}
 use lib.ListN.{length, length-map}
+use Rattle.std.specs.Prelude.{Result, Ok, Err}
 use Rattle.cost.specs.Cost.{Cost, add}
 use Rattle.cost.specs.Value.{value, outcome, within}
 use Rattle.cost.specs.declared.Reason.{Reason}
 use Rattle.cost.specs.declared.ConsumerCost.{ConsumerCost}
-use Rattle.cost.specs.declared.Costed.{Costed}
-use Rattle.cost.specs.declared.Costed.TheVariants.{Cost as Is, Failed}
 use Rattle.layout.specs.Report.{newline_at, whole_cost}
 use Rattle.report.specs.Report.{insert_at, remove_at}
 use Rattle.report.specs.Answers.{CostFits}
@@ -30,9 +29,9 @@ module _ (n rows place : ℕ) (t : List Words) (is : length t ≡ rows) (h : pla
       ∙ ap₂ (λ (x : Cost) (y : ℕ). add x (newline_at (n * y))) (cost_insert place c cs) l
       ∙ same_cost (omega arith) (omega arith)
 
-  module _ (start cost : ConsumerCost) (s : value start ≡ newline_at (n * (rows + 1 - 1))) (r : Costed) (e : outcome r ≡ within (add (value start) (value cost))) where
+  module _ (start cost : ConsumerCost) (s : value start ≡ newline_at (n * (rows + 1 - 1))) (r : Result ConsumerCost Reason) (e : outcome r ≡ within (add (value start) (value cost))) where
     -- past its widths already
-    pub with_past : (reason : Reason) → r ≡ Failed reason → CostTold (whole_cost n (insert_at place (value cost ∷ []) (map cost_at t))) (Failed reason)
+    pub with_past : (reason : Reason) → r ≡ Err reason → CostTold (whole_cost n (insert_at place (value cost ∷ []) (map cost_at t))) (Err reason)
     with_past reason q =
         past (λ f. not_added (add (value start) (value cost)) reason (sym (ap outcome q) ∙ e)
         (let g = subst CostFits (with_is (value cost)) f in
@@ -41,7 +40,7 @@ module _ (n rows place : ℕ) (t : List Words) (is : length t ≡ rows) (h : pla
           burden = omega (arith, g.burden, ap (λ (z : Cost). z.burden) s);
         }))
 
-    pub with_told : (sum : ConsumerCost) → r ≡ Is sum → {z : Costed} → CostTold (add (value sum) (cost_sum (map cost_at (remove_at rows 1 t)))) z → CostTold (whole_cost n (insert_at place (value cost ∷ []) (map cost_at t))) z
+    pub with_told : (sum : ConsumerCost) → r ≡ Ok sum → {z : Result ConsumerCost Reason} → CostTold (add (value sum) (cost_sum (map cost_at (remove_at rows 1 t)))) z → CostTold (whole_cost n (insert_at place (value cost ∷ []) (map cost_at t))) z
     with_told sum q {z} w =
         let a = added (add (value start) (value cost)) (value sum) (sym (ap outcome q) ∙ e) in
         let v : add (value sum) (cost_sum (map cost_at (remove_at rows 1 t))) ≡ whole_cost n (insert_at place (value cost ∷ []) (map cost_at t))
@@ -49,7 +48,7 @@ module _ (n rows place : ℕ) (t : List Words) (is : length t ≡ rows) (h : pla
         subst (λ (x : Cost). CostTold x z) v w
 
 -- a row less
-pub without_told : (n rows place : ℕ) (t : List Words) → length t ≡ rows → place < rows → (start : ConsumerCost) → value start ≡ newline_at (n * (rows - 1 - 1)) → {z : Costed} → CostTold (add (value start) (cost_sum (map cost_at (remove_at place 1 t)))) z
+pub without_told : (n rows place : ℕ) (t : List Words) → length t ≡ rows → place < rows → (start : ConsumerCost) → value start ≡ newline_at (n * (rows - 1 - 1)) → {z : Result ConsumerCost Reason} → CostTold (add (value start) (cost_sum (map cost_at (remove_at place 1 t)))) z
     → CostTold (whole_cost n (remove_at place 1 (map cost_at t))) z
 without_told n rows place t is h start s {z} w =
     let cs = map cost_at t in

@@ -32,9 +32,9 @@ use Rattle.report_gate.specs.Heads.{options, held}
 use Rattle.report_gate.specs.Gates.{StoresLent}
 use Rattle.report_settle.specs.declared.Step.{Step}
 use Rattle.report_settle.specs.declared.Whole.{Whole}
-use Rattle.report_settle.specs.declared.Verdict.{Verdict}
-use Rattle.report_settle.specs.declared.Verdict.TheVariants.{Fits, Lacks}
-use Rattle.report_settle.specs.Verdicts.{Judged, dear, long, many, fits, refusal_of, head_with, needs_with, page_of}
+use Rattle.std.specs.Prelude.{Result, Ok, Err}
+use Rattle.report_settle.specs.declared.Lack.{Lack}
+use Rattle.report_settle.specs.Verdicts.{lack_of, Judged, dear, long, many, fits, refusal_of, head_with, needs_with, page_of}
 use Rattle.report_settle.specs.Settled.{stores, Stands, Unaltered, Settles}
 use Rattle.report_settle.proofs.Wholes.{Sums}
 
@@ -49,27 +49,30 @@ pub record Passing (c : Cost) (output spans n m : ℕ) (w : Whole) : Type 0 wher
   pub bytes_fit : n ≤ output
   pub spans_fit : m ≤ spans
 
-pub passing : {c : Cost} {output spans n m : ℕ} {v : Verdict} (w : Whole) → v ≡ Fits w → Judged c output spans n m v → Passing c output spans n m w
-passing w e (dear x) = let z : ◌≡◌ {A = ℕ} 0 1 = cc in absurd (omega arith)
-passing w e (long x y) = let z : ◌≡◌ {A = ℕ} 0 1 = cc in absurd (omega arith)
-passing w e (many x y u) = let z : ◌≡◌ {A = ℕ} 0 1 = cc in absurd (omega arith)
+pub passing : {c : Cost} {output spans n m : ℕ} {v : Result Whole Lack} (w : Whole) → v ≡ Ok w → Judged c output spans n m v → Passing c output spans n m w
+passing w e (dear x) = absurd (cc)
+passing w e (long x y) = absurd (cc)
+passing w e (many x y u) = absurd (cc)
 passing {c} {output} {spans} {n} {m} w e (fits {w = u} a b d f g h) = let i : u ≡ w = cc in subst (λ (x : Whole). Passing c output spans n m x) i (record { cost_is = a; bytes_are = b; spans_are = d; cost_fits = f; bytes_fit = g; spans_fit = h })
 
 module _ {X Y : Report} {b : Limits} {k : Counts} {c : Cost} {n m : ℕ} where
-  lacking : (number needed : ℕ) {v : Verdict} → v ≡ Lacks number needed → (whole Y).cost ≡ c → length (whole Y).bytes ≡ n → length (whole Y).spans ≡ m → Judged c b.output b.spans n m v → Tested X b k Y (refused number needed (bare k)) X
+  lacking : (number needed : ℕ) {v : Result Whole Lack} → v ≡ Err (lack_of number needed) → (whole Y).cost ≡ c → length (whole Y).bytes ≡ n → length (whole Y).spans ≡ m → Judged c b.output b.spans n m v → Tested X b k Y (refused number needed (bare k)) X
   lacking number needed e p q r (dear x) =
-      let i : 26 ≡ number = cc in
-      let j : 0 ≡ needed = cc in
+      let l : lack_of 26 0 ≡ lack_of number needed = cc in
+      let i : 26 ≡ number = ap (λ (x : Lack). x.number) l in
+      let j : 0 ≡ needed = ap (λ (x : Lack). x.needed) l in
       subst (λ (a : Answer). Tested X b k Y a X) (ap₂ (λ (s t : ℕ). refused s t (bare k)) i j) (too_dear (λ h. x (subst CostFits p h)))
   lacking number needed e p q r (long x y) =
-      let i : 20 ≡ number = cc in
-      let j : n ≡ needed = cc in
+      let l : lack_of 20 n ≡ lack_of number needed = cc in
+      let i : 20 ≡ number = ap (λ (x : Lack). x.number) l in
+      let j : n ≡ needed = ap (λ (x : Lack). x.needed) l in
       subst (λ (a : Answer). Tested X b k Y a X) (ap₂ (λ (s t : ℕ). refused s t (bare k)) i (q ∙ j)) (no_bytes (subst CostFits (sym p) x) (omega (arith, y, q)))
   lacking number needed e p q r (many x y z) =
-      let i : 21 ≡ number = cc in
-      let j : m ≡ needed = cc in
+      let l : lack_of 21 m ≡ lack_of number needed = cc in
+      let i : 21 ≡ number = ap (λ (x : Lack). x.number) l in
+      let j : m ≡ needed = ap (λ (x : Lack). x.needed) l in
       subst (λ (a : Answer). Tested X b k Y a X) (ap₂ (λ (s t : ℕ). refused s t (bare k)) i (r ∙ j)) (no_spans (subst CostFits (sym p) x) (omega (arith, y, q)) (omega (arith, z, r)))
-  lacking number needed e p q r (fits a f d g h l) = let z : ◌≡◌ {A = ℕ} 0 1 = cc in absurd (omega arith)
+  lacking number needed e p q r (fits a f d g h l) = absurd (cc)
 
 -- ---- a refusal alters nothing
 
@@ -89,7 +92,7 @@ module _ (b : Bounds) (h : Head) (R : List Row) (stats : SolveStats) (needs : Ne
   abbrev counts : Counts
   counts = with_needs (tally stats) (needs_told needs)
 
-  pub settles_lacks : (number needed : ℕ) {v : Verdict} → v ≡ Lacks number needed → Judged c b.output b.spans n m v → (r : Step) → r ≡ refusal_of number needed stats h
+  pub settles_lacks : (number needed : ℕ) {v : Result Whole Lack} → v ≡ Err (lack_of number needed) → Judged c b.output b.spans n m v → (r : Step) → r ≡ refusal_of number needed stats h
       → (table : List Words) (files pages : List ℕ) (marks : List Words) (output : List ℕ) (spans : List Words) → Sound h.rows table (length files) (length pages) (length marks)
       → Settles b (with_needs (tally stats) (needs_told needs)) h (record { settings = settings (options h); rows = R }) table table files files pages pages marks marks output output spans spans r
   settles_lacks number needed e j r q table files pages marks output spans g =

@@ -1,14 +1,12 @@
 -- What a step leaves once its row is solved: the answer, output and spans, and the report in its memory.
-use Rattle.std.specs.Prelude.{◌≡◌, List, ℕ, ◌+◌, ◌≤◌, ◌<◌, length, take}
+use Rattle.std.specs.Prelude.{◌≡◌, Ok, Err, List, ℕ, ◌+◌, ◌≤◌, ◌<◌, length, take}
 use Rattle.cost.specs.declared.ConsumerCost.{ConsumerCost}
 use Rattle.machine.specs.Events.{Counts, no_counts, with_needs}
 use Rattle.stats.specs.declared.SolveStats.{SolveStats}
 use Rattle.solve_workspace.specs.declared.Bounds.{Bounds}
 use Rattle.solve_workspace.specs.declared.Needs.{Needs}
 use Rattle.solve_workspace.specs.Meets.{limits, tally, needs_told}
-use Rattle.render.specs.declared.page.Rendered.{Rendered}
-use Rattle.render.specs.declared.page.Rendered.TheVariants.{Page, Refused}
-use Rattle.render.specs.Rendered.{meant, page_length, span_count, counts_of, Front}
+use Rattle.render.specs.Rendered.{Rendered, page_with, refusal_with, meant, page_length, span_count, counts_of, Front}
 use Rattle.report.specs.Report.{Report, with_row, without_row, rows_most}
 use Rattle.report.specs.Answers.{Tested}
 use Rattle.report.specs.Memory.{Words, file_length, sum_of, Sound}
@@ -43,7 +41,7 @@ pub record Unaltered (h : Head) (table₀ table : List Words) (files₀ files pa
 pub record Settles (b : Bounds) (k : Counts) (h : Head) (Y : Report) (table₀ table : List Words) (files₀ files pages₀ pages : List ℕ) (marks₀ marks : List Words) (output₀ output : List ℕ) (spans₀ spans : List Words) (r : Step) : Type 0 where
   pub tested : Tested (held h table₀ files₀ pages₀ marks₀) (limits b) k Y (meant r.answer output spans) (held r.head table files pages marks)
   pub stands : Stands r.answer output₀ output spans₀ spans
-  pub kept : (n needed : ℕ) (s : SolveStats) → r.answer ≡ Refused n needed s → Unaltered h table₀ table files₀ files pages₀ pages marks₀ marks r
+  pub kept : (n needed : ℕ) (s : SolveStats) → r.answer ≡ Err (refusal_with n needed s) → Unaltered h table₀ table files₀ files pages₀ pages marks₀ marks r
   pub sound : Sound r.head.rows table (length files) (length pages) (length marks)
 
 -- ---- an insertion
@@ -78,13 +76,13 @@ row_page c n m = record { cost = c; length = n; spans = m }
 -- whatever the single call has answered
 pub record Settling (place : ℕ) (b : Bounds) (h : Head) (a : Rendered) (file row : List ℕ) (row_spans table : List Words) (files pages : List ℕ) (marks : List Words) (output : List ℕ) (spans : List Words) : Type 0 where
   pub room : Room place b h file table files pages marks output spans
-  pub page : (c : ConsumerCost) (n m : ℕ) (k : SolveStats) (q : Needs) → a ≡ Page c n m k q → PageHeld b (row_page c n m) row row_spans
+  pub page : (c : ConsumerCost) (n m : ℕ) (k : SolveStats) (q : Needs) → a ≡ Ok (page_with c n m k q) → PageHeld b (row_page c n m) row row_spans
   pub no_fit_checks : (counts_of a).fit_checks ≡ 0
 
 pub record Settled (place : ℕ) (b : Bounds) (h : Head) (a : Rendered) (file row : List ℕ) (row_spans : List Words) (table₀ table : List Words) (files₀ files pages₀ pages : List ℕ) (marks₀ marks : List Words) (output₀ output : List ℕ) (spans₀ spans : List Words) (r : Step) : Type 0 where
-  pub refused : (n needed : ℕ) (k : SolveStats) → a ≡ Refused n needed k
+  pub refused : (n needed : ℕ) (k : SolveStats) → a ≡ Err (refusal_with n needed k)
       → (r ≡ refusal_of n needed k h) × Unaltered h table₀ table files₀ files pages₀ pages marks₀ marks r × (output ≡ output₀) × (spans ≡ spans₀)
-  pub paged : (c : ConsumerCost) (n m : ℕ) (k : SolveStats) (q : Needs) → a ≡ Page c n m k q
+  pub paged : (c : ConsumerCost) (n m : ℕ) (k : SolveStats) (q : Needs) → a ≡ Ok (page_with c n m k q)
       → InsertionSettled place b h (row_page c n m) k q file row row_spans table₀ table files₀ files pages₀ pages marks₀ marks output₀ output spans₀ spans r
 
 -- ---- a removal

@@ -11,8 +11,8 @@ ghost use Rattle.report_rows.specs.Costs.{CostTold};
 ghost use Rattle.report_settle.specs.Verdicts.{Judged, VerdictRoom, Removable, refusal_of, head_with, needs_with, page_of};
 ghost use Rattle.report_settle.specs.Settled.{Settling, InsertionSettled, Removing, RemovalSettled, Inserting, Settled};
 
-use cost::{ConsumerCost, Costed};
-use render::page::Rendered;
+use cost::{ConsumerCost, Reason};
+use render::page::{Page, Refusal, Rendered};
 use report_edit::{RowPage, take_in, take_out};
 use report_gate::Head;
 use report_page::deliver;
@@ -35,87 +35,80 @@ pub struct Whole {
     pub spans: usize,
 }
 
-// The whole page, or the number of its refusal and the needed size.
+// Why the whole page does not pass: the number of its refusal, and the size that is needed there, else 0.
 #[derive(Clone, Copy)]
-pub enum Verdict {
-    Fits(Whole),
-    Lacks(u32, u64),
+pub struct Lack {
+    pub number: u32,
+    pub needed: u64,
 }
 
 // ---- the whole page is tested
 
-fn judge(b: Bounds, cost: Costed, bytes: usize, spans: usize) -> Verdict
+fn judge(
+    b: Bounds,
+    cost: Result<ConsumerCost, Reason>,
+    bytes: usize,
+    spans: usize,
+) -> Result<Whole, Lack>
     ensures { (c : Cost) → CostTold c cost → Judged c b.output b.spans bytes spans result }
 {
     match cost {
-        Costed::Failed(reason) => {
-            return Verdict::Lacks(26, 0);
-        }
-        Costed::Cost(total) => {
-            if (b.output as usize) < bytes {
-                return Verdict::Lacks(20, bytes as u64);
-            }
-            if (b.spans as usize) < spans {
-                return Verdict::Lacks(21, spans as u64);
-            }
-            return Verdict::Fits(Whole {
-                cost: total,
-                bytes: bytes,
-                spans: spans,
-            });
-        }
+        Err(_) => Err(Lack {
+            number: 26,
+            needed: 0,
+        }),
+        Ok(_) if (b.output as usize) < bytes => Err(Lack {
+            number: 20,
+            needed: bytes as u64,
+        }),
+        Ok(_) if (b.spans as usize) < spans => Err(Lack {
+            number: 21,
+            needed: spans as u64,
+        }),
+        Ok(cost) => Ok(Whole { cost, bytes, spans }),
     }
 }
 
 // The cost of the whole page with one row more.
-fn cost_with(newline_cost: u32, rows: usize, table: &[[u64; 8]], cost: ConsumerCost) -> Costed
+fn cost_with(
+    newline_cost: u32,
+    rows: usize,
+    table: &[[u64; 8]],
+    cost: ConsumerCost,
+) -> Result<ConsumerCost, Reason>
     requires { (rows ≤ 1024) × (rows ≤ length table.now) }
     ensures { (place : ℕ) → place ≤ rows → CostTold (whole_cost newline_cost (insert_at place (value cost ∷ []) (map cost_at (take rows table.now)))) result }
 {
-    let start = between(newline_cost, rows + 1);
-    match start.checked_add(cost) {
-        Costed::Failed(reason) => {
-            return Costed::Failed(reason);
-        }
-        Costed::Cost(sum) => {
-            return cost_after(table, rows, rows, sum);
-        }
-    }
+    let start = between(newline_cost, rows + 1).checked_add(cost)?;
+    cost_after(table, rows, rows, start)
 }
 
 // The cost of the whole page with one row less.
-fn cost_without(newline_cost: u32, rows: usize, place: usize, table: &[[u64; 8]]) -> Costed
+fn cost_without(
+    newline_cost: u32,
+    rows: usize,
+    place: usize,
+    table: &[[u64; 8]],
+) -> Result<ConsumerCost, Reason>
     requires { (rows ≤ 1024) × (rows ≤ length table.now) × (place < rows) }
     ensures { CostTold (whole_cost newline_cost (remove_at place 1 (map cost_at (take rows table.now)))) result }
 {
-    let start = between(newline_cost, rows - 1);
-    cost_after(table, rows, place, start)
+    cost_after(table, rows, place, between(newline_cost, rows - 1))
 }
 
-fn insertion_verdict(b: Bounds, h: Head, page: RowPage, table: &[[u64; 8]]) -> Verdict
+fn insertion_verdict(b: Bounds, h: Head, page: RowPage, table: &[[u64; 8]]) -> Result<Whole, Lack>
     requires { VerdictRoom h page table.now }
     ensures { (place : ℕ) → place ≤ h.rows → Judged (whole_cost h.newline_cost (insert_at place (value page.cost ∷ []) (map cost_at (take h.rows table.now)))) b.output b.spans (sum_of page_length (take h.rows table.now) + page.length + h.rows) (sum_of span_count (take h.rows table.now) + page.spans) result }
 {
     let count = h.rows as usize;
-    let row_cost = page.cost;
     let used = starts(table, count);
-    let cost = cost_with(h.newline_cost, count, table, row_cost);
+    let cost = cost_with(h.newline_cost, count, table, page.cost);
     let bytes = used.pages + page.length + count;
     let spans = used.marks + page.spans;
     judge(b, cost, bytes, spans)
 }
 
-// The newlines between so many rows.
-fn newlines(rows: usize) -> usize
-    ensures { result ≡ rows - 1 }
-{
-    if rows == 0 {
-        return 0;
-    }
-    rows - 1
-}
-
-fn removal_verdict(b: Bounds, h: Head, place: usize, table: &[[u64; 8]]) -> Verdict
+fn removal_verdict(b: Bounds, h: Head, place: usize, table: &[[u64; 8]]) -> Result<Whole, Lack>
     requires { Removable h place table.now }
     ensures { Judged (whole_cost h.newline_cost (remove_at place 1 (map cost_at (take h.rows table.now)))) b.output b.spans (sum_of page_length (remove_at place 1 (take h.rows table.now)) + (h.rows - 1 - 1)) (sum_of span_count (remove_at place 1 (take h.rows table.now))) result }
 {
@@ -123,8 +116,7 @@ fn removal_verdict(b: Bounds, h: Head, place: usize, table: &[[u64; 8]]) -> Verd
     let used = starts(table, count);
     let gone = entry_at(table, place);
     let cost = cost_without(h.newline_cost, count, place, table);
-    let breaks = newlines(count - 1);
-    let bytes = used.pages - gone.page + breaks;
+    let bytes = used.pages - gone.page + (count - 1).saturating_sub(1);
     let spans = used.marks - gone.spans;
     judge(b, cost, bytes, spans)
 }
@@ -135,11 +127,11 @@ pub fn refused_step(number: u32, needed: u64, stats: SolveStats, h: Head) -> Ste
     ensures { result ≡ refusal_of number needed stats h }
 {
     Step {
-        answer: Rendered::Refused {
-            number: number,
-            needed: needed,
-            stats: stats,
-        },
+        answer: Err(Refusal {
+            number,
+            needed,
+            stats,
+        }),
         head: h,
     }
 }
@@ -147,13 +139,7 @@ pub fn refused_step(number: u32, needed: u64, stats: SolveStats, h: Head) -> Ste
 fn with_rows(h: Head, rows: u32) -> Head
     ensures { result ≡ head_with h rows }
 {
-    Head {
-        rows: rows,
-        width: h.width,
-        newline_cost: h.newline_cost,
-        policy: h.policy,
-        rule: h.rule,
-    }
+    Head { rows, ..h }
 }
 
 // The row's needs, but of output and spans the whole page's.
@@ -161,33 +147,24 @@ fn whole_needs(needs: Needs, bytes: usize, spans: usize) -> Needs
     ensures { result ≡ needs_with needs bytes spans }
 {
     Needs {
-        stack: needs.stack,
-        memo: needs.memo,
-        kept: needs.kept,
-        frontier: needs.frontier,
-        plans: needs.plans,
-        visit: needs.visit,
-        depth: needs.depth,
         output: solve_workspace::narrow(bytes as u64),
         spans: solve_workspace::narrow(spans as u64),
+        ..needs
     }
 }
 
 fn page_step(w: Whole, stats: SolveStats, needs: Needs, h: Head, rows: u32) -> Step
     ensures { result ≡ page_of w stats needs h rows }
 {
-    let cost = w.cost;
-    let whole = whole_needs(needs, w.bytes, w.spans);
-    let head = with_rows(h, rows);
     Step {
-        answer: Rendered::Page {
-            cost: cost,
+        answer: Ok(Page {
+            cost: w.cost,
             length: w.bytes,
             spans: w.spans,
-            stats: stats,
-            needs: whole,
-        },
-        head: head,
+            stats,
+            needs: whole_needs(needs, w.bytes, w.spans),
+        }),
+        head: with_rows(h, rows),
     }
 }
 
@@ -214,18 +191,15 @@ fn settle_page(
     requires { Inserting place b h page stats file.now row.now row_spans.now table.old files.old pages.old marks.old output.old spans.old }
     ensures { InsertionSettled place b h page stats needs file.now row.now row_spans.now table.old table.new files.old files.new pages.old pages.new marks.old marks.new output.old output.new spans.old spans.new result }
 {
-    let v = insertion_verdict(b, h, page, table);
-    match v {
-        Verdict::Lacks(number, needed) => {
-            return refused_step(number, needed, stats, h);
-        }
-        Verdict::Fits(whole) => {
+    match insertion_verdict(b, h, page, table) {
+        Err(lack) => refused_step(lack.number, lack.needed, stats, h),
+        Ok(whole) => {
             let count = h.rows as usize;
             take_in(
                 place, count, page, h.rule, file, row, row_spans, table, files, pages, marks,
             );
             deliver(count + 1, table, pages, marks, output, spans);
-            return page_step(whole, stats, needs, h, h.rows + 1);
+            page_step(whole, stats, needs, h, h.rows + 1)
         }
     }
 }
@@ -245,12 +219,9 @@ pub fn settle_removal(
     requires { Removing place b h table.old files.old pages.old marks.old output.old spans.old }
     ensures { RemovalSettled place b h table.old table.new files.old files.new pages.old pages.new marks.old marks.new output.old output.new spans.old spans.new result }
 {
-    let v = removal_verdict(b, h, place, table);
-    match v {
-        Verdict::Lacks(number, needed) => {
-            return refused_step(number, needed, SolveStats::ZERO, h);
-        }
-        Verdict::Fits(whole) => {
+    match removal_verdict(b, h, place, table) {
+        Err(lack) => refused_step(lack.number, lack.needed, SolveStats::ZERO, h),
+        Ok(whole) => {
             let count = h.rows as usize;
             let none = Needs {
                 stack: 0,
@@ -265,7 +236,7 @@ pub fn settle_removal(
             };
             take_out(place, count, table, files, pages, marks);
             deliver(count - 1, table, pages, marks, output, spans);
-            return page_step(whole, SolveStats::ZERO, none, h, h.rows - 1);
+            page_step(whole, SolveStats::ZERO, none, h, h.rows - 1)
         }
     }
 }
@@ -290,29 +261,17 @@ pub fn settle(
     ensures { Settled place b h a file.now row.now row_spans.now table.old table.new files.old files.new pages.old pages.new marks.old marks.new output.old output.new spans.old spans.new result }
 {
     match a {
-        Rendered::Refused {
-            number,
-            needed,
-            stats,
-        } => {
-            return refused_step(number, needed, stats, h);
-        }
-        Rendered::Page {
-            cost,
-            length,
-            spans: marked,
-            stats,
-            needs,
-        } => {
-            let page = RowPage {
-                cost: cost,
-                length: length,
-                spans: marked,
+        Err(refusal) => refused_step(refusal.number, refusal.needed, refusal.stats, h),
+        Ok(page) => {
+            let own = RowPage {
+                cost: page.cost,
+                length: page.length,
+                spans: page.spans,
             };
-            return settle_page(
-                place, b, h, page, stats, needs, file, row, row_spans, table, files, pages, marks,
-                output, spans,
-            );
+            settle_page(
+                place, b, h, own, page.stats, page.needs, file, row, row_spans, table, files,
+                pages, marks, output, spans,
+            )
         }
     }
 }

@@ -22,10 +22,9 @@ use Rattle.solve_workspace.specs.Meets.{limits, tally}
 use Rattle.answer.specs.Answer.{Answers}
 use Rattle.answer.specs.Demand.{needs_page}
 use Rattle.answer.specs.Page.{Promised, right_page}
-use Rattle.render.specs.declared.page.Rendered.{Rendered}
-use Rattle.render.specs.declared.page.Rendered.TheVariants.{Page, Refused}
+use Rattle.std.specs.Prelude.{Ok, Err}
 use Rattle.render.specs.declared.order.Lengths.{Lengths}
-use Rattle.render.specs.Rendered.{meant}
+use Rattle.render.specs.Rendered.{Rendered, page_with, meant}
 use Rattle.render.specs.Call.{Rendering, settings}
 use Rattle.report.specs.Report.{Report, Step, insert, remove, rows_most}
 use Rattle.report.specs.Answers.{Admitted, inserted, removed, Tested, too_dear, no_bytes, no_spans, fits, no_place, full, row_refused, tested}
@@ -109,7 +108,7 @@ inside_at top n (r ∷ l) h zero j = (h.0.0, h.0.1, word_in top n (get_or r 0 0)
 inside_at top n (r ∷ l) h (suc k) j = inside_at top n l h.1 k (omega arith)
 
 module _ {file : List ℕ} {o : RenderOptions} {b : Bounds} {l : Lengths} {out₀ out : List ℕ} {rows₀ rows : List Words} (bo : b.output < 2 ^ 32) (bs : b.spans < 2 ^ 32) (lo : length out ≡ length out₀) (lr : length rows ≡ length rows₀) where
-  module _ {c : ConsumerCost} {n m : ℕ} {k : SolveStats} {q : Needs} (g : Rendering file o b l out₀ out rows₀ rows (Page c n m k q)) where
+  module _ {c : ConsumerCost} {n m : ℕ} {k : SolveStats} {q : Needs} (g : Rendering file o b l out₀ out rows₀ rows (Ok (page_with c n m k q))) where
     page_in : n ≤ length out
     page_in = omega (arith, lo, g.stands.output_is.within)
 
@@ -125,7 +124,7 @@ module _ {file : List ℕ} {o : RenderOptions} {b : Bounds} {l : Lengths} {out�
     row_inside : Inside n m (map span_of (take m rows))
     row_inside = go g.promised
       where
-        go : Promised file (settings o) (meant (Page c n m k q) out rows) → Inside n m (map span_of (take m rows))
+        go : Promised file (settings o) (meant (Ok (page_with c n m k q)) out rows) → Inside n m (map span_of (take m rows))
         go (right_page p) =
             let x : length (page p.layout) ≡ n = ap length (sym p.bytes_are) ∙ length-take-le n out page_in in
             let y : length (spans p.layout) ≡ m = ap length (sym p.spans_are) ∙ length-map (take m rows) span_of ∙ length-take-le m rows spans_in in
@@ -146,7 +145,7 @@ module _ {file : List ℕ} {o : RenderOptions} {b : Bounds} {l : Lengths} {out�
     page_held : PageHeld b (row_page c n m) out rows
     page_held = record { page_in = page_in; spans_in = spans_in; page_fits = page_fits; spans_fit = spans_fit; small = record { row = narrow } }
 
-  pub held_page : {a : Rendered} → Rendering file o b l out₀ out rows₀ rows a → (c : ConsumerCost) (n m : ℕ) (k : SolveStats) (q : Needs) → a ≡ Page c n m k q → PageHeld b (row_page c n m) out rows
+  pub held_page : {a : Rendered} → Rendering file o b l out₀ out rows₀ rows a → (c : ConsumerCost) (n m : ℕ) (k : SolveStats) (q : Needs) → a ≡ Ok (page_with c n m k q) → PageHeld b (row_page c n m) out rows
   held_page g c n m k q e = page_held (subst (λ (x : Rendered). Rendering file o b l out₀ out rows₀ rows x) e g)
 
 -- ---- the whole step
@@ -174,7 +173,10 @@ module _ (i : ℕ) (b : Bounds) (h : Head) (file : List ℕ) (table₀ : List Wo
       insertion_past {a} g {t} q = go a refl
         where
           go : (x : Rendered) → a ≡ x → Past (insert i file) b h table₀ table files₀ files pages₀ pages marks₀ marks output₀ output spans₀ spans t
-          go (Refused m needed k) e =
+          go (Err o) e =
+              let m : ℕ = o.number in
+              let needed : ℕ = o.needed in
+              let k : SolveStats = o.stats in
               let d = q.refused m needed k e in
               let y = subst (λ (x : Rendered). Rendering file (options h) b l row₀ row row_spans₀ row_spans x) e g in
               let u = d.1 in
@@ -196,8 +198,8 @@ module _ (i : ℕ) (b : Bounds) (h : Head) (file : List ℕ) (table₀ : List Wo
 
               stand : (m needed : ℕ) (k : SolveStats) → t ≡ refusal_of m needed k h → output ≡ output₀ → spans ≡ spans₀ → k.fit_checks ≡ 0 → Stands t.answer output₀ output spans₀ spans
               stand m needed k q x y c = subst (λ (o : List ℕ). Stands t.answer output₀ o spans₀ spans) (sym x) (subst (λ (o : List Words). Stands t.answer output₀ output₀ spans₀ o) (sym y) (stands_refused t q c output₀ spans₀))
-          go (Page c x m k z) e =
-              let d = q.paged c x m k z e in
+          go (Ok o) e =
+              let d = q.paged o.cost o.length o.spans o.stats o.needs e in
               let y = subst (λ (x : Rendered). Rendering file (options h) b l row₀ row row_spans₀ row_spans x) e g in
               record { answers = tested admitted (inserted (answers_unit w.call y.answers)) d.tested; stands = d.stands; kept = d.kept; sound_kept = λ _. d.sound }
 

@@ -11,9 +11,8 @@ use Rattle.machine.specs.Answer.{Answer, paged, refused}
 use Rattle.stats.specs.declared.SolveStats.{SolveStats}
 use Rattle.solve_workspace.specs.declared.Bounds.{Bounds}
 use Rattle.solve_workspace.specs.Meets.{limits}
-use Rattle.render.specs.declared.page.Rendered.{Rendered}
-use Rattle.render.specs.declared.page.Rendered.TheVariants.{Refused}
-use Rattle.render.specs.Rendered.{meant}
+use Rattle.std.specs.Prelude.{Err}
+use Rattle.render.specs.Rendered.{Rendered, refusal_with, meant}
 use Rattle.report.specs.Report.{Report}
 use Rattle.report.specs.Report.{Step as Asked}
 use Rattle.report.specs.Answers.{of_a_call}
@@ -50,7 +49,7 @@ module _ {s : Asked} {lent : Type 0} {d : ℕ} {D : Desks} where
     pub steps : InBytes s → r ≡ with_desks t D'
         → Served lent D d (step (held h table₀ files₀ pages₀ marks₀) s) (limits b) (held h table₀ files₀ pages₀ marks₀) (meant t.answer output spans) (held t.head table files pages marks) D'
         → Stands t.answer output₀ output spans₀ spans
-        → ((n needed : ℕ) (k : SolveStats) → t.answer ≡ Refused n needed k → Unaltered h table₀ table files₀ files pages₀ pages marks₀ marks t)
+        → ((n needed : ℕ) (k : SolveStats) → t.answer ≡ Err (refusal_with n needed k) → Unaltered h table₀ table files₀ files pages₀ pages marks₀ marks t)
         → (Sound h.rows table₀ (length files₀) (length pages₀) (length marks₀) → Sound t.head.rows table (length files) (length pages) (length marks))
         → Stepping s lent d D b h table₀ table files₀ files pages₀ pages marks₀ marks output₀ output spans₀ spans r
     steps z is w u v y = let all = serving (step_steady (held h table₀ files₀ pages₀ marks₀) s) w in subst (λ (x : DeskStep). Stepping s lent d D b h table₀ table files₀ files pages₀ pages marks₀ marks output₀ output spans₀ spans x) (sym is) (record {
@@ -74,7 +73,7 @@ module _ {s : Asked} {lent : Type 0} {d : ℕ} {D : Desks} where
 pub record Past (s : Asked) (c : Bounds) (h : Head) (table₀ table : List Words) (files₀ files pages₀ pages : List ℕ) (marks₀ marks : List Words) (output₀ output : List ℕ) (spans₀ spans : List Words) (t : Step) : Type 0 where
   pub answers : step (held h table₀ files₀ pages₀ marks₀) s (limits c) (meant t.answer output spans) (held t.head table files pages marks)
   pub stands : Stands t.answer output₀ output spans₀ spans
-  pub kept : (n needed : ℕ) (k : SolveStats) → t.answer ≡ Refused n needed k → Unaltered h table₀ table files₀ files pages₀ pages marks₀ marks t
+  pub kept : (n needed : ℕ) (k : SolveStats) → t.answer ≡ Err (refusal_with n needed k) → Unaltered h table₀ table files₀ files pages₀ pages marks₀ marks t
   pub sound_kept : Sound h.rows table₀ (length files₀) (length pages₀) (length marks₀) → Sound t.head.rows table (length files) (length pages) (length marks)
 
 module _ (D : Desks) (d : ℕ) (b : Bounds) {s : Asked} {c : Bounds} {h : Head} {table₀ table : List Words} {files₀ files pages₀ pages : List ℕ} {marks₀ marks : List Words} {output₀ output : List ℕ} {spans₀ spans : List Words} {t : Step}

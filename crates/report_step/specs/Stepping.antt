@@ -1,5 +1,5 @@
 -- What a step of a live report promises where a desk asks for it (document 02, changes 2 and 8).
-use Rattle.std.specs.Prelude.{◌≡◌, List, ℕ, ◌≤◌, length}
+use Rattle.std.specs.Prelude.{◌≡◌, Err, List, ℕ, ◌≤◌, length}
 use Rattle.machine.specs.Events.{Counts}
 use Rattle.machine.specs.Materializer.{Rendered as Page}
 use Rattle.machine.specs.Answer.{Answer, paged}
@@ -7,8 +7,7 @@ use Rattle.machine.specs.Larger.{Larger}
 use Rattle.stats.specs.declared.SolveStats.{SolveStats}
 use Rattle.solve_workspace.specs.declared.Bounds.{Bounds}
 use Rattle.solve_workspace.specs.Meets.{limits}
-use Rattle.render.specs.declared.page.Rendered.TheVariants.{Refused}
-use Rattle.render.specs.Rendered.{meant}
+use Rattle.render.specs.Rendered.{refusal_with, meant}
 use Rattle.report.specs.Report.{Report}
 use Rattle.report.specs.Report.{Step as Asked}
 use Rattle.report.specs.Answers.{StepNumbered}
@@ -38,9 +37,9 @@ without_desks r = record { answer = r.answer; head = r.head }
 pub record Stepping (s : Asked) (lent : Type 0) (d : ℕ) (D : Desks) (b : Bounds) (h : Head) (table₀ table : List Words) (files₀ files pages₀ pages : List ℕ) (marks₀ marks : List Words) (output₀ output : List ℕ) (spans₀ spans : List Words) (r : DeskStep) : Type 0 where
   pub serving : Serving lent D d (step (held h table₀ files₀ pages₀ marks₀) s) (limits b) (held h table₀ files₀ pages₀ marks₀) (meant r.answer output spans) (held r.head table files pages marks) r.desks
   pub stands : Stands r.answer output₀ output spans₀ spans
-  pub kept : (n needed : ℕ) (k : SolveStats) → r.answer ≡ Refused n needed k → Unaltered h table₀ table files₀ files pages₀ pages marks₀ marks (without_desks r)
+  pub kept : (n needed : ℕ) (k : SolveStats) → r.answer ≡ Err (refusal_with n needed k) → Unaltered h table₀ table files₀ files pages₀ pages marks₀ marks (without_desks r)
   pub sound_kept : Sound h.rows table₀ (length files₀) (length pages₀) (length marks₀) → Sound r.head.rows table (length files) (length pages) (length marks)
-  pub numbered : (n needed : ℕ) (k : SolveStats) → r.answer ≡ Refused n needed k → ServedNumbered StepNumbered n
+  pub numbered : (n needed : ℕ) (k : SolveStats) → r.answer ≡ Err (refusal_with n needed k) → ServedNumbered StepNumbered n
   pub right : RightReport (held h table₀ files₀ pages₀ marks₀) → RightReport (held r.head table files pages marks)
   pub whole_page : RightReport (held h table₀ files₀ pages₀ marks₀) → (p : Page) (k : Counts) → meant r.answer output spans ≡ paged p k → WholePage (held r.head table files pages marks) p
   pub same_page : (p : Page) (k : Counts) → meant r.answer output spans ≡ paged p k → (Y : Report) → RightReport (held h table₀ files₀ pages₀ marks₀) → RightReport Y

@@ -33,11 +33,9 @@ pub struct DeskStep {
 fn with_desks(s: Step, d: Desks) -> DeskStep
     ensures { result ≡ with_desks s d }
 {
-    let answer = s.answer;
-    let head = s.head;
     DeskStep {
-        answer: answer,
-        head: head,
+        answer: s.answer,
+        head: s.head,
         desks: d,
     }
 }
@@ -47,17 +45,14 @@ fn charged_step(s: Step, desk: u32, d: Desks) -> DeskStep
     requires { work_in s.answer ≤ remaining d desk }
     ensures { result ≡ with_desks s (charged d desk (work_in s.answer)) }
 {
-    let answer = s.answer;
-    let after = charged(d, desk, work_of(answer));
-    with_desks(s, after)
+    with_desks(s, charged(d, desk, work_of(s.answer)))
 }
 
 // A step that the gate refuses.
 fn shut_step(number: u32, h: Head, d: Desks) -> DeskStep
     ensures { result ≡ with_desks (refusal_of number 0 none_counted h) d }
 {
-    let s = refused_step(number, 0, SolveStats::ZERO, h);
-    with_desks(s, d)
+    with_desks(refused_step(number, 0, SolveStats::ZERO, h), d)
 }
 
 // A file comes in at a place: the single call on it, into row output and row spans; then the whole page. table, files, pages and marks are the report's own memory; output and spans take the

@@ -1,2 +1,1 @@
 pub mod Pastes
-pub mod Loops

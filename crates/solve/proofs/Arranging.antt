@@ -18,7 +18,7 @@ use Rattle.solve_workspace.specs.declared.Bounds.{Bounds}
 use Rattle.solve_workspace.specs.Meets.{limits}
 use Rattle.solve_workspace.specs.Rows.{Row, node_of}
 use Rattle.solve.specs.declared.SolvedCore.{SolvedCore}
-use Rattle.solve.specs.declared.Solution.TheVariants.{Found}
+use Rattle.std.specs.Prelude.{Ok}
 use Rattle.solve.specs.Numbered.{Names, NamesFrom, TextsBelow, Rooted}
 use Rattle.solve.specs.Numbers.{solve_rooted}
 use Rattle.solve.specs.Outcome.{core, outcome, Arranged}
@@ -38,7 +38,7 @@ fine_at t n [] h i k = absurd (omega arith)
 fine_at t n (x ∷ l) h zero k = let e : n ≡ n + 0 = omega arith in subst (λ (m : ℕ). Fine t m x) e (fine_as t n x h.0)
 fine_at t n (x ∷ l) h (suc i) k = let e : suc n + i ≡ n + suc i = omega arith in subst (λ (m : ℕ). Fine t m (get_or l i Empty)) e (fine_at t (suc n) l h.1 i (omega arith))
 
-pub arranged : (R : Rules) (P : Prepared) → Ready P → (t : ℕ) → TextsBelow t P → (b : Bounds) (c : SolvedCore) (ns : List Row) → run (limits b) no_counts (solve R P) ≡ outcome (Found c) ns
+pub arranged : (R : Rules) (P : Prepared) → Ready P → (t : ℕ) → TextsBelow t P → (b : Bounds) (c : SolvedCore) (ns : List Row) → run (limits b) no_counts (solve R P) ≡ outcome (Ok c) ns
     → c.plans ≤ length ns → c.plans < 2 ^ 32 → Arranged t c ns
 arranged R P K t B b c ns h l f =
     let v : value (solve R P) ≡ core c ns = sym (done_value (done_is (limits b) no_counts (solve R P) h)) in

@@ -1,33 +1,13 @@
 -- Laws of the least candidate of a range.
 use mathlib.Core.Path.{◌≡◌, sym, ap, ◌∙◌}
-use mathlib.Core.Bool.{true, false, cond}
+use mathlib.Core.Bool.{cond}
 use mathlib.Core.List.{List, ◌∷◌}
 use Prim.Native.Nat.{ℕ, zero, suc, ◌+◌, ◌-◌, ◌≤◌, ◌<◌}
 use native.Mathlib.Omega.{arith}
-use borrow.Author.Tests.{lt-ltb, le-ltb}
 use lib.ListN.{get_or}
-use Rattle.cost.specs.Cost.{cheap, cheaper}
 use Rattle.machine.specs.Model.{Candidate, no_candidate, part}
 use Rattle.machine.specs.Solve.{before, least_key}
 use Rattle.solve.specs.Outcome.{least_of}
-
--- ---- of two
-
-pub less_is : (x y : Candidate) → cheaper x.cost y.cost ≡ true → x ≡ cond (before x y) x y
-unfolding before
-less_is x y h = rw h
-
-pub first_is : (x y : Candidate) → cheaper x.cost y.cost ≡ false → cheap x.cost y.cost ≡ true → x.plan.precedence < y.plan.precedence → x ≡ cond (before x y) x y
-unfolding before
-first_is x y h e l = rw (h, e, lt-ltb x.plan.precedence y.plan.precedence l)
-
-pub later_is : (x y : Candidate) → cheaper x.cost y.cost ≡ false → cheap x.cost y.cost ≡ true → y.plan.precedence ≤ x.plan.precedence → y ≡ cond (before x y) x y
-unfolding before
-later_is x y h e l = rw (h, e, le-ltb x.plan.precedence y.plan.precedence l)
-
-pub more_is : (x y : Candidate) → cheaper x.cost y.cost ≡ false → cheap x.cost y.cost ≡ false → y ≡ cond (before x y) x y
-unfolding before
-more_is x y h e = rw (h, e)
 
 -- ---- of a range
 

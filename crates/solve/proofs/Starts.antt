@@ -3,8 +3,7 @@ use mathlib.Core.Path.{◌≡◌, refl, sym, ap, ◌∙◌, subst}
 use mathlib.Core.List.{List, [], ◌∷◌, map}
 use Prim.Native.Nat.{ℕ, zero, suc, ◌≤◌, ◌<◌, ◌^◌}
 use native.Mathlib.Omega.{arith}
-use lib.ListN.{length, get_or, replicate, length-append, length-map}
-use Rattle.stats.specs.declared.SolveStats.{SolveStats}
+use lib.ListN.{length, get_or, length-append, length-map}
 use Rattle.layout.specs.Document.{Doc}
 use Rattle.layout.specs.Layout.{Plan}
 use Rattle.layout.specs.Reading.{document, document_reads}
@@ -39,54 +38,59 @@ use Rattle.solve_workspace.specs.Meets.{limits, tally, counts, needs_in, reason,
 use Rattle.solve_workspace.specs.Rows.{Row, at, pile, range_of, row_list, candidate_of, candidate, node_of, abs}
 use Rattle.solve_workspace.specs.Frames.{Popped, Memory, no_entry}
 use Rattle.solve_workspace.specs.Frames.{Kept as Stayed}
-use Rattle.solve_workspace.specs.Lent.{WORDS, regs, Held}
 use Rattle.solve_workspace.specs.Stacks.{pop_is}
 use Rattle.solve_workspace.specs.Words.{low_is}
 use Rattle.solve_builder.specs.Building.{Begun}
-use Rattle.solve_builder.specs.Opening.{begun_abs, begun_counts, begun_held}
+use Rattle.solve_builder.specs.Opening.{begun_abs, begun_counts, begun_sound}
 use Rattle.solve.specs.declared.SolverNeeds.{SolverNeeds}
-use Rattle.solve.specs.declared.Solution.TheVariants.{Found}
+use Rattle.std.specs.Prelude.{Ok}
 use Rattle.solve.specs.Accepted.{Typed, MemoRoom, NeedsFit, Topped}
 use Rattle.solve.specs.Outcome.{outcome, least_of, with_nodes, needs_low, solver_needs}
 use Rattle.solve.proofs.Turns.{value_is}
 
 -- ---- the start
 
--- no word is set
-abbrev pub none_set : List ℕ
-none_set = replicate WORDS 0
-
-pub none_held : (b : Bounds) → b.stack < 2 ^ 32 → Held b none_set
-none_held b f = record {
-  room = omega arith;
-  sound = record {
-    hits = omega arith;
-    misses = omega arith;
-    generated = omega arith;
-    pruned = omega arith;
-    work = omega arith;
-    tasks = omega arith;
-    results = omega arith;
-    pending = omega arith;
-    memo = omega arith;
-    kept = omega arith;
-    plans = omega arith;
-    stack = f;
-  };
+-- the registers before the start
+abbrev pub none_set : Registers
+none_set = record {
+  tasks = 0;
+  results = 0;
+  pending = 0;
+  memo = 0;
+  kept = 0;
+  plans = 0;
+  start = 0;
+  len = 0;
+  builder = record { root = 0; head = 0; tail = 0; free = 0; used = 0; live = 0 };
+  stats = record { work_items = 0; fit_checks = 0; memo_hits = 0; memo_misses = 0; candidates_generated = 0; candidates_pruned = 0; peak_frontier = 0; memo_entries = 0; plan_nodes = 0; visits = 0 };
+  peaks = record { stack = 0; memo = 0; frontier = 0 };
 }
 
-pub none_room : {g : List ℕ} → g ≡ none_set → WORDS ≤ length g
-none_room e = subst (λ (x : List ℕ). WORDS ≤ length x) (sym e) (omega arith)
+none_held : (b : Bounds) → b.stack < 2 ^ 32 → Sound b none_set
+none_held b f = record {
+  hits = omega arith;
+  misses = omega arith;
+  generated = omega arith;
+  pruned = omega arith;
+  work = omega arith;
+  tasks = omega arith;
+  results = omega arith;
+  pending = omega arith;
+  memo = omega arith;
+  kept = omega arith;
+  plans = omega arith;
+  stack = f;
+}
 
 -- the registers of a call that begins
 pub record Started (z : Registers) : Type 0 where
-  pub begun : Begun (regs none_set) z
+  pub begun : Begun none_set z
 
-pub started : {g : List ℕ} {z : Registers} → g ≡ none_set → Begun (regs g) z → Started z
-started {z = z} e h = record { begun = subst (λ (x : List ℕ). Begun (regs x) z) e h }
+pub started : {g z : Registers} → g ≡ none_set → Begun g z → Started z
+started {z = z} e h = record { begun = subst (λ (x : Registers). Begun x z) e h }
 
-pub started_held : {b : Bounds} {g h : List ℕ} → g ≡ none_set → Begun (regs g) (regs h) → length h ≡ length g → b.stack < 2 ^ 32 → Held b h
-started_held {b = b} {g = g} e h l f = begun_held h l (subst (λ (x : List ℕ). Held b x) (sym e) (none_held b f))
+pub started_held : {b : Bounds} {g z : Registers} → g ≡ none_set → Begun g z → b.stack < 2 ^ 32 → Sound b z
+started_held {b = b} e h f = begun_sound h (subst (λ (x : Registers). Sound b x) (sym e) (none_held b f))
 
 blank_is : {z : Registers} → Started z → (ts rs ps es ks : List Row) (fs : List ℕ) (ns : List Row) → abs z ts rs ps es ks fs ns ≡ blank_state
 unfolding abs listed arena
@@ -206,21 +210,22 @@ plans_of : (s : Registers) (ts rs ps es ks : List Row) (fs : List ℕ) (ns : Lis
 unfolding abs
 plans_of s ts rs ps es ks fs ns = refl
 
--- a popped result leaves the needs, which are told whole
-needs_same : (st s : Registers) → Popped st s → NeedsFit st → solver_needs (needs_low s) ≡ needs_in st
-needs_same st s p y =
-    rw (p.peaks, p.builder, p.kept, p.plans, low_is (needs_in st).stack y.stack, low_is (needs_in st).memo y.memo, low_is (needs_in st).kept y.kept, low_is (needs_in st).frontier y.frontier, low_is (needs_in st).plans y.plans)
+-- the needs are told whole
+needs_same : (st : Registers) → NeedsFit st → solver_needs (needs_low st) ≡ needs_in st
+needs_same st y =
+    rw (low_is (needs_in st).stack y.stack, low_is (needs_in st).memo y.memo, low_is (needs_in st).kept y.kept, low_is (needs_in st).frontier y.frontier, low_is (needs_in st).plans y.plans)
 
 pub best_is : (b : Bounds) (R : Rules) (P : Prepared) (st s : Registers) (ts rs ps es ks : List Row) (fs : List ℕ) (ns : List Row) (best : Code)
     → pop_exact_result (abs st ts rs ps es ks fs ns) ≡ ret (got (range s.start s.len) (abs s ts rs ps es ks fs ns)) → Popped st s → 1 ≤ s.len
-    → candidate best ≡ least_of (part (row_list candidate_of ks s.kept) s.start s.len) → (t : SolveStats) → t ≡ with_nodes s.stats s.plans → (n : SolverNeeds) → n ≡ needs_low s → NeedsFit st
-    → run (limits b) (counts st) (take_best R P (abs st ts rs ps es ks fs ns)) ≡ outcome (Found (record { root = best.plan; cost = best.cost; plans = s.plans; stats = t; needs = n })) ns
+    → candidate best ≡ least_of (part (row_list candidate_of ks s.kept) s.start s.len) → (n : SolverNeeds) → n ≡ needs_low st → NeedsFit st
+    → run (limits b) (counts st) (take_best R P (abs st ts rs ps es ks fs ns)) ≡ outcome (Ok (record { root = best.plan; cost = best.cost; plans = s.plans; stats = with_nodes s.stats s.plans; needs = n })) ns
 unfolding take_best
-best_is b R P st s ts rs ps es ks fs ns best e p l c t q d v y =
+best_is b R P st s ts rs ps es ks fs ns best e p l c d v y =
     let S = abs s ts rs ps es ks fs ns in
     let cs = part (row_list candidate_of ks s.kept) s.start s.len in
+    let t = with_nodes s.stats s.plans in
     let n : length (map node_of (arena ns s.plans)) ≡ s.plans = length-map (arena ns s.plans) node_of ∙ arena_length ns s.plans in
-    let k : counted (counts st) (PlanNodes (length S.plans)) ≡ with_needs (tally t) (solver_needs d) = rw (plans_of s ts rs ps es ks fs ns, n, q, p.stats, v, needs_same st s p y) in
+    let k : counted (counts st) (PlanNodes (length S.plans)) ≡ with_needs (tally t) (solver_needs d) = rw (plans_of s ts rs ps es ks fs ns, n, p.stats, v, needs_same st y) in
     ap (λ (m : Prog Got). run (limits b) (counts st) (m >>= (λ G. best_of (within_range G.state.retained G.range) G.state))) e
     ∙ ap (λ (r : List Candidate). run (limits b) (counts st) (best_of (part r s.start s.len) S)) (kept_of s ts rs ps es ks fs ns)
     ∙ best_run b (counts st) cs S (some_part (row_list candidate_of ks s.kept) s.start s.len l)
@@ -237,7 +242,7 @@ solved {b = b} R P {f = f} m q r =
     run_bind (limits b) no_counts (solve_tasks R P) (take_best R P) ∙ (ap (λ x. and_then (limits b) x (take_best R P)) (m.is ∙ ap (λ x. out x f) q) ∙ r)
 
 pub refused : {b : Bounds} (R : Rules) (P : Prepared) {a : Reached} {f : Registers → State} {s : Registers} {w : Why} {n : ℕ}
-    → Meets b no_counts (solve_tasks R P) a f → a ≡ Stop w n s → (t : SolveStats) → t ≡ s.stats → run (limits b) no_counts (solve R P) ≡ stop (reason w) n (tally t)
+    → Meets b no_counts (solve_tasks R P) a f → a ≡ Stop w n s → run (limits b) no_counts (solve R P) ≡ stop (reason w) n (tally s.stats)
 unfolding solve
-refused {b = b} R P {f = f} {w = w} {n = n} m q t e =
-    run_bind (limits b) no_counts (solve_tasks R P) (take_best R P) ∙ (ap (λ x. and_then (limits b) x (take_best R P)) (m.is ∙ ap (λ x. out x f) q) ∙ ap (λ (k : SolveStats). stop (reason w) n (tally k)) (sym e))
+refused {b = b} R P {f = f} m q =
+    run_bind (limits b) no_counts (solve_tasks R P) (take_best R P) ∙ ap (λ x. and_then (limits b) x (take_best R P)) (m.is ∙ ap (λ x. out x f) q)

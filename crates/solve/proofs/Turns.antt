@@ -3,7 +3,7 @@ use mathlib.Core.Path.{◌≡◌, sym, ap, ◌∙◌, subst}
 use mathlib.Core.List.{List, [], ◌∷◌}
 use Prim.Native.Nat.{ℕ, suc, ◌≤◌, ◌<◌}
 use native.Mathlib.Omega.{arith}
-use lib.ListN.{length, get_or, set, length-append, length-set}
+use lib.ListN.{length, get_or, length-append}
 use Rattle.layout.specs.Document.{Doc}
 use Rattle.layout.specs.Layout.{Plan}
 use Rattle.layout.specs.Rules.{Rules}
@@ -30,13 +30,11 @@ use Rattle.solve_workspace.specs.declared.Why.{Why}
 use Rattle.solve_workspace.specs.declared.Reached.{Reached}
 use Rattle.solve_workspace.specs.declared.Reached.TheVariants.{Go, Stop}
 use Rattle.solve_workspace.specs.Meets.{limits, counts, out, Sound, Meets, Leads}
-use Rattle.solve_workspace.specs.Rows.{Row, at, pile, task_of, range_of, scratch_of, candidate_of, abs}
+use Rattle.solve_workspace.specs.Rows.{Row, pile, task_of, range_of, scratch_of, candidate_of, abs}
 use Rattle.solve_workspace.specs.Frames.{Memory}
-use Rattle.solve_workspace.specs.Lent.{TASKS, WORDS, regs, Held}
 use Rattle.solve_workspace.specs.Reading.{prepared, tables, rules}
 use Rattle.solve_workspace.specs.Runs.{leads_seq, halt}
-use Rattle.solve_workspace.specs.Stacks.{pile_length, row_list_length, with_tasks_to, sound_tasks}
-use Rattle.solve_workspace.specs.Stores.{tasks_stored}
+use Rattle.solve_workspace.specs.Stacks.{pile_length, row_list_length, with_tasks_to}
 use Rattle.solve_execute.specs.Turn.{Room, Fits}
 use Rattle.solve.specs.Accepted.{Typed}
 
@@ -95,23 +93,13 @@ kept_are : (s : Registers) (ts rs ps es ks : List Row) (fs : List ℕ) (ns : Lis
 unfolding abs
 kept_are s ts rs ps es ks fs ns h = row_list_length candidate_of ks s.kept h
 
-pub fits : (R : Rules) (N : List Row) (E C : List ℕ) (X : List Row) (sp : ℕ) (b : Bounds) (g : List ℕ) (ts rs ps es ks : List Row) (fs : List ℕ) (ns : List Row) (i : ℕ) → at g TASKS ≡ suc i
-    → Held b g → Room b ts rs ps fs ks ns → Typed R (prepared (tables N E C X [] 0 0 sp)) (abs (regs g) ts rs ps es ks fs ns) → Fits N E (regs (set g TASKS i)) (task_of (get_or ts i []))
-fits R N E C X sp b g ts rs ps es ks fs ns i e h m t =
-    let s = regs g in
+pub fits : (R : Rules) (N : List Row) (E C : List ℕ) (X : List Row) (sp : ℕ) (b : Bounds) (s : Registers) (ts rs ps es ks : List Row) (fs : List ℕ) (ns : List Row) (i : ℕ) → s.tasks ≡ suc i
+    → Sound b s → Room b ts rs ps fs ks ns → Typed R (prepared (tables N E C X [] 0 0 sp)) (abs s ts rs ps es ks fs ns) → Fits N E (with_tasks_to s i) (task_of (get_or ts i []))
+fits R N E C X sp b s ts rs ps es ks fs ns i e h m t =
     let S = abs s ts rs ps es ks fs ns in
-    subst (λ (z : Registers). Fits N E z (task_of (get_or ts i []))) (sym (tasks_stored g i h.room))
-    (fits_cont R N E C X [] 0 0 sp t.documents t.goal (with_tasks_to s i) S.results
+    fits_cont R N E C X [] 0 0 sp t.documents t.goal (with_tasks_to s i) S.results
     (subst (λ (z : List Task). Cont R (prepared (tables N E C X [] 0 0 sp)).table t.documents t.goal S.retained (laid (prepared (tables N E C X [] 0 0 sp)).table S.plans) z t.inv.types S.pending) (top s ts rs ps es ks fs ns i e) t.inv.conts)
-    t.inv.res (results_are s ts rs ps es ks fs ns) (pending_are s ts rs ps es ks fs ns (omega (arith, h.sound.pending, m.pending))) (kept_are s ts rs ps es ks fs ns (omega (arith, h.sound.kept, m.kept))))
-
--- the words without the task on top
-pub untasked : {b : Bounds} {g : List ℕ} (i : ℕ) → at g TASKS ≡ suc i → Held b g → Held b (set g TASKS i)
-untasked {b = b} {g = g} i e h =
-    record { room = omega (arith, length-set g TASKS i, h.room); sound = subst (Sound b) (sym (tasks_stored g i h.room)) (sound_tasks i h.sound (omega (arith, h.sound.tasks, e))) }
-
-pub memo_stays : {b : Bounds} (g : List ℕ) {ss : List ℕ} {es : List Row} (i : ℕ) → WORDS ≤ length g → Memory b (regs g).memo ss es → Memory b (regs (set g TASKS i)).memo ss es
-memo_stays {b = b} g {ss = ss} {es = es} i l h = subst (λ (z : Registers). Memory b z.memo ss es) (sym (tasks_stored g i l)) h
+    t.inv.res (results_are s ts rs ps es ks fs ns) (pending_are s ts rs ps es ks fs ns (omega (arith, h.pending, m.pending))) (kept_are s ts rs ps es ks fs ns (omega (arith, h.kept, m.kept)))
 
 -- ---- a turn
 
@@ -120,19 +108,15 @@ pub record Turned (R : Rules) (P : Prepared) (b : Bounds) (k j : Counts) (S Z : 
   pub typed : Typed R P Z
   pub less : left R P Z < left R P S
 
-module _ (R : Rules) (P : Prepared) (K : Ready P) (b : Bounds) (g : List ℕ) (w : WORDS ≤ length g) (ts rs ps es ks : List Row) (fs : List ℕ) (ns : List Row) (i : ℕ) (e : at g TASKS ≡ suc i)
-    (t : Typed R P (abs (regs g) ts rs ps es ks fs ns)) (x : Task) (ex : x ≡ task_of (get_or ts i [])) {a : Reached} {f : Registers → State}
-    (m : Meets b (counts (regs (set g TASKS i))) (execute_task R P x (abs (regs (set g TASKS i)) ts rs ps es ks fs ns)) a f) where
-  abbrev s : Registers
-  s = regs g
-
+module _ (R : Rules) (P : Prepared) (K : Ready P) (b : Bounds) (s : Registers) (ts rs ps es ks : List Row) (fs : List ℕ) (ns : List Row) (i : ℕ) (e : s.tasks ≡ suc i)
+    (t : Typed R P (abs s ts rs ps es ks fs ns)) (x : Task) (ex : x ≡ task_of (get_or ts i [])) {a : Reached} {f : Registers → State}
+    (m : Meets b (counts s) (execute_task R P x (abs (with_tasks_to s i) ts rs ps es ks fs ns)) a f) where
   abbrev S₀ : State
   S₀ = abs s ts rs ps es ks fs ns
 
   stepped : Meets b (counts s) (step R P S₀) a f
   stepped = subst (λ (p : Prog State). Meets b (counts s) p a f)
-      (ap (λ (y : Task). execute_task R P y (abs (with_tasks_to s i) ts rs ps es ks fs ns)) ex ∙ sym (step_is R P s ts rs ps es ks fs ns i e))
-      (subst (λ (z : Registers). Meets b (counts z) (execute_task R P x (abs z ts rs ps es ks fs ns)) a f) (tasks_stored g i w) m)
+      (ap (λ (y : Task). execute_task R P y (abs (with_tasks_to s i) ts rs ps es ks fs ns)) ex ∙ sym (step_is R P s ts rs ps es ks fs ns i e)) m
 
   unrolled : rest R P S₀ ≡ (step R P S₀ >>= rest R P)
   unrolled = rest_step R P t.documents t.goal K t.reads _ _ S₀ (top s ts rs ps es ks fs ns i e) t.inv
@@ -166,10 +150,9 @@ finished R P K b s ts rs ps es ks fs ns e h t =
 
 -- ---- the loop
 
--- each slice has its length; the memo's slices and the words are sound; the run from the entry on leads here
-pub record Working (options : RenderOptions) (b : Bounds) (N : List Row) (E C : List ℕ) (X : List Row) (sp : ℕ) (g₀ : List ℕ) (ts₀ rs₀ ps₀ : List Row) (ss₀ : List ℕ) (es₀ : List Row) (fs₀ : List ℕ) (ks₀ ns₀ : List Row)
-    (g : List ℕ) (ts rs ps : List Row) (ss : List ℕ) (es : List Row) (fs : List ℕ) (ks ns : List Row) : Type 0 where
-  pub words : length g ≡ length g₀
+-- each slice has its length; the memo's slices and the registers are sound; the run from the entry on leads here
+pub record Working (options : RenderOptions) (b : Bounds) (N : List Row) (E C : List ℕ) (X : List Row) (sp : ℕ) (g₀ : Registers) (ts₀ rs₀ ps₀ : List Row) (ss₀ : List ℕ) (es₀ : List Row) (fs₀ : List ℕ) (ks₀ ns₀ : List Row)
+    (g : Registers) (ts rs ps : List Row) (ss : List ℕ) (es : List Row) (fs : List ℕ) (ks ns : List Row) : Type 0 where
   pub tasks : length ts ≡ length ts₀
   pub results : length rs ≡ length rs₀
   pub pending : length ps ≡ length ps₀
@@ -178,8 +161,8 @@ pub record Working (options : RenderOptions) (b : Bounds) (N : List Row) (E C : 
   pub frontier : length fs ≡ length fs₀
   pub kept : length ks ≡ length ks₀
   pub plans : length ns ≡ length ns₀
-  pub memory : Memory b (regs g).memo ss es
-  pub held : Held b g
-  pub typed : (bytes : List ℕ) (annotations root : ℕ) → Typed (rules options) (prepared (tables N E C X bytes annotations root sp)) (abs (regs g) ts rs ps es ks fs ns)
-  pub leads : (bytes : List ℕ) (annotations root : ℕ) → Leads b (counts (regs g₀)) (rest (rules options) (prepared (tables N E C X bytes annotations root sp)) (abs (regs g₀) ts₀ rs₀ ps₀ es₀ ks₀ fs₀ ns₀))
-      (counts (regs g)) (rest (rules options) (prepared (tables N E C X bytes annotations root sp)) (abs (regs g) ts rs ps es ks fs ns))
+  pub memory : Memory b g.memo ss es
+  pub held : Sound b g
+  pub typed : (bytes : List ℕ) (annotations root : ℕ) → Typed (rules options) (prepared (tables N E C X bytes annotations root sp)) (abs g ts rs ps es ks fs ns)
+  pub leads : (bytes : List ℕ) (annotations root : ℕ) → Leads b (counts g₀) (rest (rules options) (prepared (tables N E C X bytes annotations root sp)) (abs g₀ ts₀ rs₀ ps₀ es₀ ks₀ fs₀ ns₀))
+      (counts g) (rest (rules options) (prepared (tables N E C X bytes annotations root sp)) (abs g ts rs ps es ks fs ns))

@@ -1,5 +1,5 @@
 -- The theorem of Numbered: each step keeps that plans name earlier plans, and texts that are there.
-use Rattle.std.specs.Prelude.{◌≡◌, Bool, cond, ltb, take, drop}
+use Rattle.std.specs.Prelude.{◌≡◌, Some as Found, None as Nothing, Bool, cond, ltb, take, drop}
 use Rattle.std.proofs.Math.Path.{refl, subst}
 use Rattle.std.proofs.Common.{sym, ap, ◌∙◌}
 use Rattle.std.proofs.Math.Bool.{true, false, not}
@@ -12,9 +12,7 @@ use Rattle.cost.specs.Cost.{Cost, zero_cost, add}
 use Rattle.cost.specs.Charge.{penalty_cost}
 use Rattle.memo.specs.declared.MemoKey.{MemoKey}
 use Rattle.memo.specs.declared.CandidateRange.{CandidateRange}
-use Rattle.memo.specs.declared.MemoLookup.{MemoLookup}
-use Rattle.memo.specs.declared.MemoLookup.TheVariants.{Found, Nothing}
-use Rattle.memo.specs.Entries.{Entry, lookup}
+use Rattle.memo.specs.Entries.{MemoLookup, Entry, lookup}
 use Rattle.layout.specs.Document.{Doc}
 use Rattle.layout.specs.Layout.{Plan}
 use Rattle.layout.specs.Reading.{document, document_reads}

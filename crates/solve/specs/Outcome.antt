@@ -1,5 +1,5 @@
 -- What the answer of `solve` says, as the end of a run of the machine.
-use Rattle.std.specs.Prelude.{List, [], ◌∷◌, map, ℕ, ◌≤◌, ◌<◌, ◌^◌, length}
+use Rattle.std.specs.Prelude.{Result, Ok, Err, List, [], ◌∷◌, map, ℕ, ◌≤◌, ◌<◌, ◌^◌, length}
 use Rattle.cost.specs.Value.{value}
 use Rattle.stats.specs.declared.SolveStats.{SolveStats}
 use Rattle.plan.specs.Arena.{arena}
@@ -12,8 +12,11 @@ use Rattle.solve_workspace.specs.Meets.{tally, needs_in, reason}
 use Rattle.solve_workspace.specs.Rows.{Row, low, node_of}
 use Rattle.solve.specs.declared.SolverNeeds.{SolverNeeds}
 use Rattle.solve.specs.declared.SolvedCore.{SolvedCore}
-use Rattle.solve.specs.declared.Solution.{Solution}
-use Rattle.solve.specs.declared.Solution.TheVariants.{Found, Refused}
+use Rattle.solve.specs.declared.Unsolved.{Unsolved}
+
+-- what is found, or why not
+abbrev pub Solution : Type 0
+Solution = Result SolvedCore Unsolved
 
 -- the plan that is chosen, its cost, and the plans in the rows
 abbrev pub core : SolvedCore → List Row → Solved
@@ -24,8 +27,8 @@ abbrev pub solver_needs : SolverNeeds → Needs
 solver_needs q = record { stack = q.stack; memo = q.memo; kept = q.kept; frontier = q.frontier; plans = q.plans; visit = 0; depth = 0; output = 0; spans = 0 }
 
 abbrev pub outcome : Solution → List Row → Out Solved
-outcome (Found c) plans = done (with_needs (tally c.stats) (solver_needs c.needs)) (core c plans)
-outcome (Refused why needed stats) plans = stop (reason why) needed (tally stats)
+outcome (Ok c) plans = done (with_needs (tally c.stats) (solver_needs c.needs)) (core c plans)
+outcome (Err u) plans = stop (reason u.halt.why) u.halt.needed (tally u.stats)
 
 -- the counts with so many plans
 abbrev pub with_nodes : SolveStats → ℕ → SolveStats
@@ -59,8 +62,8 @@ pub record Arranged (t : ℕ) (c : SolvedCore) (plans : List Row) : Type 0 where
   pub rooted : c.root.0 < c.plans
 
 abbrev pub ArrangedAt : ℕ → Solution → List Row → Type 0
-ArrangedAt t (Found c) plans = Arranged t c plans
-ArrangedAt t (Refused why needed stats) plans = Unit {0}
+ArrangedAt t (Ok c) plans = Arranged t c plans
+ArrangedAt t (Err u) plans = Unit {0}
 
 pub record Plans (t : ℕ) (a : Solution) (plans : List Row) : Type 0 where
   pub by : ArrangedAt t a plans

@@ -6,13 +6,12 @@ use Rattle.cost.specs.declared.Reason.{Reason}
 use Rattle.layout.specs.Rules.{Rules}
 use Rattle.memo.specs.declared.MemoKey.{MemoKey}
 use Rattle.memo.specs.declared.CandidateRange.{CandidateRange}
-use Rattle.memo.specs.declared.MemoLookup.{MemoLookup}
-use Rattle.memo.specs.declared.MemoLookup.TheVariants.{Found, Nothing}
-use Rattle.memo.specs.Entries.{lookup, listed}
+use Rattle.std.specs.Prelude.{Some, None, Ok, Err}
+use Rattle.memo.specs.Entries.{MemoLookup, lookup, listed}
 use Rattle.frontier.specs.declared.ScratchCandidate.{ScratchCandidate}
 use Rattle.frontier.specs.Candidates.{carried}
 use Rattle.file_tables.specs.Tables.{Tables}
-use Rattle.machine.specs.Events.{Counts, ◌>>=◌, Hit, Miss}
+use Rattle.machine.specs.Events.{Counts, Hit, Miss}
 use Rattle.machine.specs.Model.{Prepared, State}
 use Rattle.machine.specs.Solver.{begin_known, begin_node, begin_kind, push_exact_result, complete_singleton}
 use Rattle.solve_workspace.specs.declared.Bounds.{Bounds}
@@ -30,41 +29,39 @@ use Rattle.solve_workspace.specs.Runs.{seq, halt}
 use Rattle.solve_workspace.specs.Rows.{Row, abs, survivor}
 use Rattle.solve_node.specs.declared.Leaf.{Leaf}
 use Rattle.solve_node.specs.declared.Inner.{Inner}
-use Rattle.solve_node.specs.declared.LeafCandidate.{LeafCandidate}
-use Rattle.solve_node.specs.declared.LeafCandidate.TheVariants.{Candidate as ACandidate, Failed as NoPlace}
 use Rattle.solve_node.specs.declared.PreparedNode.{PreparedNode}
 use Rattle.solve_node.specs.declared.PreparedNode.TheVariants.{Leaf as ALeaf, Inner as AnInner}
-use Rattle.solve_node.specs.Begun.{leaf_begun, inner_begun, begun, Leafed, LeafedCase, Begins}
+use Rattle.solve_node.specs.Begun.{LeafCandidate, leaf_begun, inner_begun, begun, Leafed, LeafedCase, Begins}
 
 pub same_on : {o s : Registers} (a : Reached) → Kept o s → SameMemo s a → SameMemo o a
 same_on a h k = same_trans a h.memo k
 
-pub leaf_push : {R : Rules} {l : Leaf} {q : MemoKey} {r : LeafCandidate} {c : ScratchCandidate} → Leafed R l q r → r ≡ ACandidate c
+pub leaf_push : {R : Rules} {l : Leaf} {q : MemoKey} {r : LeafCandidate} {c : ScratchCandidate} → Leafed R l q r → r ≡ Ok c
     → (P : Prepared) (b : Bounds) (j : Counts) (S : State) → Leads b j (leaf_begun R P l q S) j (complete_singleton R P q (survivor (carried c)) S)
 leaf_push {R = R} {l = l} {q = q} h e = subst (λ x. LeafedCase R l q x) e h.by
 
-pub leaf_fails : {R : Rules} {l : Leaf} {q : MemoKey} {r : LeafCandidate} {y : Reason} → Leafed R l q r → r ≡ NoPlace y
+pub leaf_fails : {R : Rules} {l : Leaf} {q : MemoKey} {r : LeafCandidate} {y : Reason} → Leafed R l q r → r ≡ Err y
     → (P : Prepared) (b : Bounds) (s : Registers) (S : State) (f : Registers → State) → Meets b (counts s) (leaf_begun R P l q S) (Stop (Domain y) 0 s) f
 leaf_fails {R = R} {l = l} {q = q} h e = subst (λ x. LeafedCase R l q x) e h.by
 
 module _ (R : Rules) (P : Prepared) where
   pub hit_halt : {b : Bounds} {k : Counts} {z : Registers} {a : Reached} {f g : Registers → State} {w : Why} {n : ℕ} (r : CandidateRange) (q : MemoKey) (S : State)
-      → Meets b k (ticked Hit S) a f → a ≡ Stop w n z → Meets b k (begin_known R P (Found r) q S) a g
+      → Meets b k (ticked Hit S) a f → a ≡ Stop w n z → Meets b k (begin_known R P (Some r) q S) a g
   unfolding begin_known
   hit_halt r q S h e = halt (push_exact_result r) h e
 
   pub hit_seq : {b : Bounds} {k : Counts} {s : Registers} {a c : Reached} {f g : Registers → State} (r : CandidateRange) (q : MemoKey) (S : State)
-      → Meets b k (ticked Hit S) a f → a ≡ Go s → Meets b (counts s) (push_exact_result r (f s)) c g → Meets b k (begin_known R P (Found r) q S) c g
+      → Meets b k (ticked Hit S) a f → a ≡ Go s → Meets b (counts s) (push_exact_result r (f s)) c g → Meets b k (begin_known R P (Some r) q S) c g
   unfolding begin_known
   hit_seq r q S h e m = seq (push_exact_result r) h e m
 
   pub miss_halt : {b : Bounds} {k : Counts} {z : Registers} {a : Reached} {f g : Registers → State} {w : Why} {n : ℕ} (q : MemoKey) (S : State)
-      → Meets b k (ticked Miss S) a f → a ≡ Stop w n z → Meets b k (begin_known R P Nothing q S) a g
+      → Meets b k (ticked Miss S) a f → a ≡ Stop w n z → Meets b k (begin_known R P None q S) a g
   unfolding begin_known
   miss_halt q S h e = halt (begin_kind R P (P.table.node q.node) q) h e
 
   pub miss_seq : {b : Bounds} {k : Counts} {s : Registers} {a c : Reached} {f g : Registers → State} (q : MemoKey) (S : State)
-      → Meets b k (ticked Miss S) a f → a ≡ Go s → Meets b (counts s) (begin_kind R P (P.table.node q.node) q (f s)) c g → Meets b k (begin_known R P Nothing q S) c g
+      → Meets b k (ticked Miss S) a f → a ≡ Go s → Meets b (counts s) (begin_kind R P (P.table.node q.node) q (f s)) c g → Meets b k (begin_known R P None q S) c g
   unfolding begin_known
   miss_seq q S h e m = seq (begin_kind R P (P.table.node q.node) q) h e m
 

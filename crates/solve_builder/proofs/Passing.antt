@@ -5,15 +5,13 @@ use Prim.Native.Nat.{ℕ, suc, ◌+◌, ◌-◌, ◌≤◌, ◌<◌, ◌^◌}
 use native.Mathlib.Omega.{arith}
 use lib.ListN.{length, length-map, length-append}
 use Rattle.layout.specs.Frontier.{Cand}
-use Rattle.frontier.specs.Passed.{Link}
-use Rattle.frontier.specs.Passed.{Nothing, Slot}
+use Rattle.std.specs.Prelude.{Option, Some, None}
 use Rattle.frontier.specs.Passed.{link_of}
 use Rattle.plan.specs.declared.PendingPlan.{PendingPlan as Pended}
 use Rattle.plan.specs.Arena.{view, additions}
 use Rattle.frontier.specs.Candidates.{Pending, candidate_at, next, Going, Stands}
-use Rattle.frontier.specs.declared.Builder.{Builder}
 use Rattle.frontier.specs.Candidates.{survivors}
-use Rattle.frontier.specs.Walk.{begins, survive_length, meets, goes_on, ends, Met}
+use Rattle.frontier.specs.Walk.{survive_length, meets, goes_on, ends, Met}
 use Rattle.machine.specs.Model.{Scratch, PendingPlan, Existing, Made}
 use Rattle.machine.specs.Solver.{additional, additional_plans}
 use Rattle.solve_workspace.specs.declared.Bounds.{Bounds}
@@ -54,27 +52,20 @@ adds_few (x ∷ l) = omega (arith, adds_more x l, one_at_most (survivor x).plan.
 pub plans_few : {b : Bounds} {s : Registers} {fs : List ℕ} → Building b s fs → length (additional_plans (map survivor (survivors fs s.builder))) ≤ s.builder.live
 plans_few {s = s} {fs = fs} h = omega (arith, adds_few (survivors fs s.builder), survive_length h.frontier.sound.kept)
 
--- from the first link of a builder d read out of the words stand the survivors, as many as it says
-pub walk_begins : {b : Bounds} {s : Registers} {fs : List ℕ} {c : Link} (d : Builder) → Building b s fs → d ≡ s.builder → c ≡ link_of d.head → Going fs c (survivors fs s.builder)
-walk_begins d h e q = begins h.frontier (q ∙ ap (λ (z : Builder). link_of z.head) e)
-
-pub walk_length : {b : Bounds} {s : Registers} {fs : List ℕ} (d : Builder) → Building b s fs → d ≡ s.builder → d.live ≡ length (survivors fs s.builder)
-walk_length d h e = ap (λ (z : Builder). z.live) e ∙ sym (survive_length h.frontier.sound.kept)
-
 -- those passed, and those left from the link on
-pub record Along (fs : List ℕ) (cursor : Link) (all : List (Cand Pending)) : Type 0 where
+pub record Along (fs : List ℕ) (cursor : Option ℕ) (all : List (Cand Pending)) : Type 0 where
   pub past : List (Cand Pending)
   pub more : List (Cand Pending)
   pub whole : past ++ more ≡ all
   pub rest : Going fs cursor more
 
-abbrev pub along_start : (fs : List ℕ) (cursor : Link) (all : List (Cand Pending)) → Going fs cursor all → Along fs cursor all
+abbrev pub along_start : (fs : List ℕ) (cursor : Option ℕ) (all : List (Cand Pending)) → Going fs cursor all → Along fs cursor all
 along_start fs cursor all r = record { past = []; more = all; whole = refl; rest = r }
 
-abbrev pub met : {fs : List ℕ} {cursor : Link} {all : List (Cand Pending)} (g : Along fs cursor all) (s : ℕ) → cursor ≡ Slot s → Met fs s g.more
+abbrev pub met : {fs : List ℕ} {cursor : Option ℕ} {all : List (Cand Pending)} (g : Along fs cursor all) (s : ℕ) → cursor ≡ Some s → Met fs s g.more
 met g s q = meets g.rest q
 
-abbrev pub along_next : {fs : List ℕ} {cursor : Link} {all : List (Cand Pending)} (g : Along fs cursor all) (s : ℕ) (q : cursor ≡ Slot s) (after : Link) → after ≡ link_of (next fs s) → Along fs after all
+abbrev pub along_next : {fs : List ℕ} {cursor : Option ℕ} {all : List (Cand Pending)} (g : Along fs cursor all) (s : ℕ) (q : cursor ≡ Some s) (after : Option ℕ) → after ≡ link_of (next fs s) → Along fs after all
 along_next {fs = fs} g s q after e =
     let m = met g s q in
     record {
@@ -85,16 +76,16 @@ along_next {fs = fs} g s q after e =
       rest = goes_on m e;
     }
 
-along_length : {fs : List ℕ} {cursor : Link} {all : List (Cand Pending)} (g : Along fs cursor all) → length g.past + length g.more ≡ length all
+along_length : {fs : List ℕ} {cursor : Option ℕ} {all : List (Cand Pending)} (g : Along fs cursor all) → length g.past + length g.more ≡ length all
 along_length g = sym (length-append g.past g.more) ∙ ap length g.whole
 
-more_length : {fs : List ℕ} {cursor : Link} {all : List (Cand Pending)} (g : Along fs cursor all) (s : ℕ) (q : cursor ≡ Slot s) → length g.more ≡ suc (length (met g s q).more)
+more_length : {fs : List ℕ} {cursor : Option ℕ} {all : List (Cand Pending)} (g : Along fs cursor all) (s : ℕ) (q : cursor ≡ Some s) → length g.more ≡ suc (length (met g s q).more)
 more_length g s q = ap length (met g s q).is
 
-pub along_room : {fs : List ℕ} {cursor : Link} {all : List (Cand Pending)} (g : Along fs cursor all) (s : ℕ) → cursor ≡ Slot s → length g.past + 1 ≤ length all
+pub along_room : {fs : List ℕ} {cursor : Option ℕ} {all : List (Cand Pending)} (g : Along fs cursor all) (s : ℕ) → cursor ≡ Some s → length g.past + 1 ≤ length all
 along_room g s q = omega (arith, along_length g, more_length g s q)
 
-along_end : {fs : List ℕ} {cursor : Link} {all : List (Cand Pending)} (g : Along fs cursor all) → cursor ≡ Nothing → g.past ≡ all
+along_end : {fs : List ℕ} {cursor : Option ℕ} {all : List (Cand Pending)} (g : Along fs cursor all) → cursor ≡ None → g.past ≡ all
 along_end g q =
     sym (append-nil g.past) ∙ (ap (λ (z : List (Cand Pending)). g.past ++ z) (sym (ends g.rest q)) ∙ g.whole)
 
@@ -103,16 +94,16 @@ past_length l x = length-append l (x ∷ [])
 
 -- ---- counting
 
-pub record Counting (fs : List ℕ) (cursor : Link) (all : List (Cand Pending)) (left count : ℕ) : Type 0 where
+pub record Counting (fs : List ℕ) (cursor : Option ℕ) (all : List (Cand Pending)) (left count : ℕ) : Type 0 where
   pub along : Along fs cursor all
   pub left_is : left ≡ length along.more
   pub count_is : count ≡ length (additional_plans (map survivor along.past))
   pub few : count ≤ length along.past
 
-pub counting_start : (fs : List ℕ) (cursor : Link) (all : List (Cand Pending)) (left : ℕ) → Going fs cursor all → left ≡ length all → Counting fs cursor all left 0
+pub counting_start : (fs : List ℕ) (cursor : Option ℕ) (all : List (Cand Pending)) (left : ℕ) → Going fs cursor all → left ≡ length all → Counting fs cursor all left 0
 counting_start fs cursor all left r e = record { along = along_start fs cursor all r; left_is = e; count_is = sym adds_none; few = omega arith }
 
-pub counting_next : {fs : List ℕ} {cursor : Link} {all : List (Cand Pending)} {left count : ℕ} (g : Counting fs cursor all left count) (s : ℕ) (q : cursor ≡ Slot s) (after : Link) (n : ℕ)
+pub counting_next : {fs : List ℕ} {cursor : Option ℕ} {all : List (Cand Pending)} {left count : ℕ} (g : Counting fs cursor all left count) (s : ℕ) (q : cursor ≡ Some s) (after : Option ℕ) (n : ℕ)
     → after ≡ link_of (next fs s) → n ≡ adds (candidate_at fs s) → n ≤ 1 → Counting fs after all (left - 1) (count + n)
 counting_next {fs = fs} g s q after n e h i =
     let a = g.along in
@@ -124,16 +115,16 @@ counting_next {fs = fs} g s q after n e h i =
       few = omega (arith, g.few, past_length a.past x);
     }
 
-pub counting_left : {fs : List ℕ} {cursor : Link} {all : List (Cand Pending)} {left count : ℕ} (g : Counting fs cursor all left count) (s : ℕ) → cursor ≡ Slot s → 1 ≤ left
+pub counting_left : {fs : List ℕ} {cursor : Option ℕ} {all : List (Cand Pending)} {left count : ℕ} (g : Counting fs cursor all left count) (s : ℕ) → cursor ≡ Some s → 1 ≤ left
 counting_left g s q = omega (arith, g.left_is, more_length g.along s q)
 
-pub counting_fits : {fs : List ℕ} {cursor : Link} {all : List (Cand Pending)} {left count : ℕ} (g : Counting fs cursor all left count) (s : ℕ) → cursor ≡ Slot s → count + 1 ≤ length all
+pub counting_fits : {fs : List ℕ} {cursor : Option ℕ} {all : List (Cand Pending)} {left count : ℕ} (g : Counting fs cursor all left count) (s : ℕ) → cursor ≡ Some s → count + 1 ≤ length all
 counting_fits g s q = omega (arith, g.few, along_room g.along s q)
 
-pub counting_stands : {fs : List ℕ} {cursor : Link} {all : List (Cand Pending)} {left count : ℕ} (g : Counting fs cursor all left count) (s : ℕ) → cursor ≡ Slot s → Stands fs s
+pub counting_stands : {fs : List ℕ} {cursor : Option ℕ} {all : List (Cand Pending)} {left count : ℕ} (g : Counting fs cursor all left count) (s : ℕ) → cursor ≡ Some s → Stands fs s
 counting_stands g s q = (met g.along s q).stands
 
-pub counting_end : {fs : List ℕ} {cursor : Link} {all : List (Cand Pending)} {left count : ℕ} (g : Counting fs cursor all left count) → cursor ≡ Nothing
+pub counting_end : {fs : List ℕ} {cursor : Option ℕ} {all : List (Cand Pending)} {left count : ℕ} (g : Counting fs cursor all left count) → cursor ≡ None
     → (count ≡ length (additional_plans (map survivor all))) × (count ≤ length all)
 counting_end g q =
     let e = along_end g.along q in
@@ -141,21 +132,21 @@ counting_end g q =
 
 -- ---- committing
 
-pub record Passing (fs : List ℕ) (cursor : Link) (all : List (Cand Pending)) (ks ns ks' ns' : List Row) (k n k' n' : ℕ) : Type 0 where
+pub record Passing (fs : List ℕ) (cursor : Option ℕ) (all : List (Cand Pending)) (ks ns ks' ns' : List Row) (k n k' n' : ℕ) : Type 0 where
   pub along : Along fs cursor all
   pub commits : Commits (map survivor along.past) ks ns ks' ns' k n k' n'
 
-pub passing_start : (fs : List ℕ) (cursor : Link) (all : List (Cand Pending)) (ks ns : List Row) (k n : ℕ) → Going fs cursor all → Passing fs cursor all ks ns ks ns k n k n
+pub passing_start : (fs : List ℕ) (cursor : Option ℕ) (all : List (Cand Pending)) (ks ns : List Row) (k n : ℕ) → Going fs cursor all → Passing fs cursor all ks ns ks ns k n k n
 passing_start fs cursor all ks ns k n r = record { along = along_start fs cursor all r; commits = commits_none ks ns k n }
 
-module _ {fs : List ℕ} {cursor : Link} {all : List (Cand Pending)} {ks ns ks' ns' : List Row} {k n k' n' : ℕ} (g : Passing fs cursor all ks ns ks' ns' k n k' n') where
-  pub passing_stands : (s : ℕ) → cursor ≡ Slot s → Stands fs s
+module _ {fs : List ℕ} {cursor : Option ℕ} {all : List (Cand Pending)} {ks ns ks' ns' : List Row} {k n k' n' : ℕ} (g : Passing fs cursor all ks ns ks' ns' k n k' n') where
+  pub passing_stands : (s : ℕ) → cursor ≡ Some s → Stands fs s
   passing_stands s q = (met g.along s q).stands
 
   number_is : k' ≡ k + length g.along.past
   number_is = omega (arith, g.commits.number, length-map g.along.past survivor)
 
-  pub passing_one : (s : ℕ) (q : cursor ≡ Slot s) (x : Cand Pending) → x ≡ candidate_at fs s → k + length all ≤ length ks' → n + length (additional_plans (map survivor all)) ≤ length ns'
+  pub passing_one : (s : ℕ) (q : cursor ≡ Some s) (x : Cand Pending) → x ≡ candidate_at fs s → k + length all ≤ length ks' → n + length (additional_plans (map survivor all)) ≤ length ns'
       → n + length (additional_plans (map survivor all)) < 2 ^ 32 → CommittableOne (survivor x) ks' ns' k' n'
   passing_one s q x e h i j =
       let m = met g.along s q in
@@ -168,10 +159,10 @@ module _ {fs : List ℕ} {cursor : Link} {all : List (Cand Pending)} {ks ns ks' 
       ∙ ap (λ z. length (additional_plans (map survivor g.along.past)) + z) (adds_more m.x m.more))) in
       record { kept = omega (arith, number_is, along_room g.along s q); plans = omega (arith, a, t, g.commits.count); small = omega (arith, a, t, g.commits.count) }
 
-  pub passing_less : (s : ℕ) → cursor ≡ Slot s → k + length all ≤ length ks' → k' < length ks'
+  pub passing_less : (s : ℕ) → cursor ≡ Some s → k + length all ≤ length ks' → k' < length ks'
   passing_less s q h = omega (arith, number_is, along_room g.along s q)
 
-  pub passing_next : (s : ℕ) (q : cursor ≡ Slot s) (x : Cand Pending) (after : Link) (ks₂ ns₂ : List Row) (n₂ : ℕ) → x ≡ candidate_at fs s → after ≡ link_of (next fs s)
+  pub passing_next : (s : ℕ) (q : cursor ≡ Some s) (x : Cand Pending) (after : Option ℕ) (ks₂ ns₂ : List Row) (n₂ : ℕ) → x ≡ candidate_at fs s → after ≡ link_of (next fs s)
       → Commits (survivor x ∷ []) ks' ns' ks₂ ns₂ k' n' (k' + 1) n₂ → Passing fs after all ks ns ks₂ ns₂ k n (k' + 1) n₂
   passing_next s q x after ks₂ ns₂ n₂ e i c =
       record {
@@ -181,7 +172,7 @@ module _ {fs : List ℕ} {cursor : Link} {all : List (Cand Pending)} {ks ns ks' 
             (subst (λ (z : Cand Pending). Commits (survivor z ∷ []) ks' ns' ks₂ ns₂ k' n' (k' + 1) n₂) e c));
       }
 
-  pub passing_end : (e : ℕ) → cursor ≡ Nothing → e ≡ k + length all → Commits (map survivor all) ks ns ks' ns' k n e n'
+  pub passing_end : (e : ℕ) → cursor ≡ None → e ≡ k + length all → Commits (map survivor all) ks ns ks' ns' k n e n'
   passing_end e q h =
       let p = along_end g.along q in
       let w : k' ≡ e = omega (arith, number_is, ap length p) in

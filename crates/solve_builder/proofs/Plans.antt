@@ -6,7 +6,7 @@ use native.Mathlib.Omega.{arith}
 use lib.ListN.{length, set, length-map, length-append}
 use Rattle.plan.specs.declared.PlanNode.{PlanNode as Node}
 use Rattle.plan.specs.declared.PendingPlan.{PendingPlan as Pended}
-use Rattle.plan.specs.declared.PendingPlan.TheVariants.{Existing as Stands, Empty as NewEmpty, Text as NewText, Newline as NewNewline, Concat as NewConcat, Annotate as NewAnnotate, Penalty as NewPenalty}
+use Rattle.plan.specs.declared.PendingPlan.TheVariants.{Existing as Stands, New}
 use Rattle.plan.specs.declared.Committed.{Committed}
 use Rattle.plan.specs.Records.{pending_of}
 use Rattle.plan.specs.Arena.{arena, view, additions, numbered, Committing}
@@ -23,21 +23,11 @@ use Rattle.solve_builder.specs.Committing.{kept_as, Commits}
 
 additional_view : (p : Pended) → map node_of (additions (view p)) ≡ additional (plan_of p)
 additional_view (Stands p) = refl
-additional_view NewEmpty = refl
-additional_view (NewText t) = refl
-additional_view (NewNewline i) = refl
-additional_view (NewConcat l r) = refl
-additional_view (NewAnnotate a c) = refl
-additional_view (NewPenalty n c) = refl
+additional_view (New x) = refl
 
 number_view : (n : ℕ) (p : Pended) → (numbered n (view p)).0 ≡ plan_number n (plan_of p)
 number_view n (Stands p) = refl
-number_view n NewEmpty = refl
-number_view n (NewText t) = refl
-number_view n (NewNewline i) = refl
-number_view n (NewConcat l r) = refl
-number_view n (NewAnnotate a c) = refl
-number_view n (NewPenalty m c) = refl
+number_view n (New x) = refl
 
 words_pending : (k a b : ℕ) → plan_of (pending_of k a b) ≡ plan_of_kind k a b
 words_pending zero a b = refl
@@ -58,12 +48,7 @@ length_view p = sym (length-map (additions (view p)) node_of) ∙ ap length (add
 
 pub additional_few : (p : Pended) → length (additions (view p)) ≤ 1
 additional_few (Stands p) = omega arith
-additional_few NewEmpty = omega arith
-additional_few (NewText t) = omega arith
-additional_few (NewNewline i) = omega arith
-additional_few (NewConcat l r) = omega arith
-additional_few (NewAnnotate a c) = omega arith
-additional_few (NewPenalty n c) = omega arith
+additional_few (New x) = omega arith
 
 -- a kept candidate in words
 pub kept_row_is : (c : ScratchCandidate) (n : ℕ) → c.last < 2 ^ 32 → n < 2 ^ 32

@@ -2,6 +2,7 @@
 use mathlib.Core.Path.{◌≡◌, refl, sym, ap, ◌∙◌, subst}
 use mathlib.Core.Bool.{Bool, true, false, not, ◌||◌, cond}
 use mathlib.Core.List.{List, [], ◌∷◌, ◌++◌, map, map-append}
+use Rattle.std.specs.Prelude.{Result, Ok, Err}
 use Prim.Native.Nat.{ℕ, ◌+◌, ◌-◌, ◌≤◌, ◌<◌, ◌^◌, max}
 use native.Mathlib.Omega.{arith}
 use lib.ListN.{length, length-map, length-append}
@@ -9,12 +10,10 @@ use borrow.Author.Tests.{lt-ltb, le-ltb, le-leb, lt-leb}
 use Rattle.layout.specs.Frontier.{Cand, covers, any, keep, cons_if}
 use Rattle.layout.specs.Frontier.{present as presented}
 use Rattle.stats.specs.declared.SolveStats.{SolveStats}
-use Rattle.stats.specs.declared.SolveCounter.TheVariants.{WorkItems, CandidatesGenerated}
-use Rattle.stats.specs.Counts.{bumped}
 use Rattle.frontier.specs.declared.Builder.{Builder}
 use Rattle.frontier.specs.declared.ScratchCandidate.{ScratchCandidate}
 use Rattle.frontier.specs.declared.Presented.{Presented}
-use Rattle.frontier.specs.declared.Presented.TheVariants.{Done, Exhausted}
+use Rattle.frontier.specs.declared.Full.{Full}
 use Rattle.frontier.specs.Candidates.{Pending, carried, survivors}
 use Rattle.frontier.specs.Kept.{Frontier, After, Refused, Presents}
 use Rattle.frontier.specs.Walk.{survive_length, survive_few}
@@ -81,6 +80,21 @@ present_is : (c : Scratch) (S : State) (l : List Scratch) → presented covers S
 unfolding present
 present_is c S l e = rw e
 
+-- the counts with a candidate
+abbrev pub one_counted : SolveStats → SolveStats
+one_counted t = record {
+  work_items = t.work_items + 1;
+  fit_checks = t.fit_checks;
+  memo_hits = t.memo_hits;
+  memo_misses = t.memo_misses;
+  candidates_generated = t.candidates_generated + 1;
+  candidates_pruned = t.candidates_pruned;
+  peak_frontier = t.peak_frontier;
+  memo_entries = t.memo_entries;
+  plan_nodes = t.plan_nodes;
+  visits = t.visits;
+}
+
 -- the candidate with its precedence
 abbrev pub numbered : ScratchCandidate → ℕ → ScratchCandidate
 numbered c n = record { cost = c.cost; last = c.last; precedence = n; kind = c.kind; first = c.first; second = c.second }
@@ -106,20 +120,16 @@ pub present_spent : (S : State) (b : Bounds) (s : Registers) (c : Scratch) (f : 
 unfolding present
 present_spent S b s c f h = record { is = rw (le-ltb s.stats.work_items b.work_limit h); sound = tt }
 
-pub pruned_fits : (b : Bounds) (s : Registers) (t : SolveStats) (fs fs' : List ℕ) (d : Builder) (x : Cand Pending) (n : ℕ) → t ≡ bumped (bumped s.stats WorkItems) CandidatesGenerated → Sound b s
+pub pruned_fits : (b : Bounds) (s : Registers) (fs fs' : List ℕ) (d : Builder) (x : Cand Pending) (n : ℕ) → Sound b s
     → s.stats.work_items < b.work_limit → b.work_limit < 2 ^ 64 → Frontier fs b.frontier s.builder → After fs fs' b.frontier s.builder d x n
-    → t.candidates_pruned + n < 2 ^ 64
-unfolding bumped
-pruned_fits b s t fs fs' d x n e snd h l at a =
-    rw e (omega (arith, snd.generated, snd.pruned, snd.work, a.pruned_is, survive_length at.sound.kept))
+    → s.stats.candidates_pruned + n < 2 ^ 64
+pruned_fits b s fs fs' d x n snd h l at a = omega (arith, snd.generated, snd.pruned, snd.work, a.pruned_is, survive_length at.sound.kept)
 
 -- the counts stay in order
-present_sound : (b : Bounds) (s : Registers) (t : SolveStats) (d : Builder) (n l m : ℕ) → t ≡ bumped (bumped s.stats WorkItems) CandidatesGenerated → Sound b s
-    → s.stats.work_items < b.work_limit → s.builder.live ≡ l → d.live ≡ m → m ≤ l + 1 → n ≡ l + 1 - m → Sound b (with_frontier_to s (more_pruned t n) d)
-unfolding bumped
-present_sound b s t d n l m e snd h i j few k =
-    rw e
-    (record {
+present_sound : (b : Bounds) (s : Registers) (d : Builder) (n l m : ℕ) → Sound b s
+    → s.stats.work_items < b.work_limit → s.builder.live ≡ l → d.live ≡ m → m ≤ l + 1 → n ≡ l + 1 - m → Sound b (with_frontier_to s (more_pruned (one_counted s.stats) n) d)
+present_sound b s d n l m snd h i j few k =
+    record {
       hits = omega (arith, snd.hits);
       misses = omega (arith, snd.misses);
       generated = omega (arith, snd.generated);
@@ -132,13 +142,13 @@ present_sound b s t d n l m e snd h i j few k =
       kept = snd.kept;
       plans = snd.plans;
       stack = snd.stack;
-    })
+    }
 
-module _ (b : Bounds) (s : Registers) (t : SolveStats) (e : t ≡ bumped (bumped s.stats WorkItems) CandidatesGenerated) (h : s.stats.work_items < b.work_limit) (c : ScratchCandidate) where
+module _ (b : Bounds) (s : Registers) (h : s.stats.work_items < b.work_limit) (c : ScratchCandidate) where
   pub present_go : (snd : Sound b s) (fs fs' : List ℕ) (d : Builder) (n : ℕ) → Frontier fs b.frontier s.builder
       → After fs fs' b.frontier s.builder d (carried (numbered c s.stats.candidates_generated)) n → (ts rs ps es ks ns : List Row)
-      → Meets b (counts s) (present (survivor (carried c)) (abs s ts rs ps es ks fs ns)) (Go (with_frontier_to s (more_pruned t n) d)) (λ z. abs z ts rs ps es ks fs' ns)
-  unfolding abs bumped
+      → Meets b (counts s) (present (survivor (carried c)) (abs s ts rs ps es ks fs ns)) (Go (with_frontier_to s (more_pruned (one_counted s.stats) n) d)) (λ z. abs z ts rs ps es ks fs' ns)
+  unfolding abs
   present_go snd fs fs' d n at a ts rs ps es ks ns =
       let x = carried (numbered c s.stats.candidates_generated) in
       let old = survivors fs s.builder in
@@ -149,14 +159,14 @@ module _ (b : Bounds) (s : Registers) (t : SolveStats) (e : t ≡ bumped (bumped
       let m : length (map survivor new) ≡ d.live = length-map new survivor ∙ survive_length a.frontier.sound.kept in
       let u : max (max s.peaks.frontier s.builder.used) d.live ≡ max s.peaks.frontier d.used = omega (arith, a.most) in
       record {
-        is = rw (present_is (survivor (carried c)) (abs s ts rs ps es ks fs ns) (map survivor new) i, lt-ltb s.stats.work_items b.work_limit h, le-leb (length (map survivor new)) b.frontier j, k, m, u, e);
-        sound = present_sound b s t d n (length old) (length new) e snd h (sym (survive_length at.sound.kept)) (sym (survive_length a.frontier.sound.kept))
+        is = rw (present_is (survivor (carried c)) (abs s ts rs ps es ks fs ns) (map survivor new) i, lt-ltb s.stats.work_items b.work_limit h, le-leb (length (map survivor new)) b.frontier j, k, m, u);
+        sound = present_sound b s d n (length old) (length new) snd h (sym (survive_length at.sound.kept)) (sym (survive_length a.frontier.sound.kept))
             (rw a.survivors_are (present_few old x)) (rw a.survivors_are a.pruned_is);
       }
 
   pub present_stop : (fs fs' : List ℕ) (n : ℕ) → Refused fs fs' b.frontier s.builder (carried (numbered c s.stats.candidates_generated)) n → (ts rs ps es ks ns : List Row) (f : Registers → State)
-      → Meets b (counts s) (present (survivor (carried c)) (abs s ts rs ps es ks fs ns)) (Stop Size n (with_stats s t)) f
-  unfolding abs bumped
+      → Meets b (counts s) (present (survivor (carried c)) (abs s ts rs ps es ks fs ns)) (Stop Size n (with_stats s (one_counted s.stats))) f
+  unfolding abs
   present_stop fs fs' n r ts rs ps es ks ns f =
       let x = carried (numbered c s.stats.candidates_generated) in
       let old = survivors fs s.builder in
@@ -166,16 +176,13 @@ module _ (b : Bounds) (s : Registers) (t : SolveStats) (e : t ≡ bumped (bumped
       let k : length (map survivor old) + 1 - n ≡ 0 = omega (arith, length-map old survivor, r.live_is) in
       let l : s.stats.candidates_pruned + 0 ≡ s.stats.candidates_pruned = omega arith in
       record {
-        is = rw (present_is (survivor (carried c)) (abs s ts rs ps es ks fs ns) (map survivor new) i, lt-ltb s.stats.work_items b.work_limit h, j, lt-leb n b.frontier (omega (arith, r.more, r.needed_is)), k, l, e);
+        is = rw (present_is (survivor (carried c)) (abs s ts rs ps es ks fs ns) (map survivor new) i, lt-ltb s.stats.work_items b.work_limit h, j, lt-leb n b.frontier (omega (arith, r.more, r.needed_is)), k, l);
         sound = tt;
       }
 
 -- what the frontier answered
-pub record Told (m n : List ℕ) (size : ℕ) (b : Builder) (x : Cand Pending) (r : Presented) : Type 0 where
-  pub by : Presents m n size b x r
+pub after_by : {m n : List ℕ} {size : ℕ} {b : Builder} {d : Presented} {x : Cand Pending} {r : Result Presented Full} → Presents m n size b x r → r ≡ Ok d → After m n size b d.builder x d.pruned
+after_by {m = m} {n = n} {size = size} {b = b} {x = x} h q = subst (λ (z : Result Presented Full). Presents m n size b x z) q h
 
-pub after_by : {m n : List ℕ} {size : ℕ} {b d : Builder} {x : Cand Pending} {r : Presented} {k : ℕ} → Told m n size b x r → r ≡ Done d k → After m n size b d x k
-after_by {m = m} {n = n} {size = size} {b = b} {x = x} h q = subst (λ z. Presents m n size b x z) q h.by
-
-pub refused_by : {m n : List ℕ} {size : ℕ} {b : Builder} {x : Cand Pending} {r : Presented} {k : ℕ} → Told m n size b x r → r ≡ Exhausted k → Refused m n size b x k
-refused_by {m = m} {n = n} {size = size} {b = b} {x = x} h q = subst (λ z. Presents m n size b x z) q h.by
+pub refused_by : {m n : List ℕ} {size : ℕ} {b : Builder} {x : Cand Pending} {r : Result Presented Full} {e : Full} → Presents m n size b x r → r ≡ Err e → Refused m n size b x e.needed
+refused_by {m = m} {n = n} {size = size} {b = b} {x = x} h q = subst (λ (z : Result Presented Full). Presents m n size b x z) q h

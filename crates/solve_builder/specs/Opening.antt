@@ -12,23 +12,20 @@ use Rattle.solve_workspace.specs.declared.Registers.{Registers}
 use Rattle.solve_workspace.specs.declared.Reached.{Reached}
 use Rattle.solve_workspace.specs.declared.Why.{Why}
 use Rattle.solve_workspace.specs.declared.Reached.TheVariants.{Go}
-use Rattle.solve_workspace.specs.declared.Turn.TheVariants.{Going, Halted}
 use Rattle.solve_workspace.specs.Meets.{counts, Sound, Meets}
 use Rattle.solve_workspace.specs.Rows.{Row, abs}
 use Rattle.solve_workspace.specs.Frames.{Kept}
-use Rattle.solve_workspace.specs.Lent.{regs, Held, reached}
+use Rattle.solve_workspace.specs.Turns.{going, halting, reached}
 use Rattle.solve_builder.specs.Building.{Building, BuildingAt, BuildingCase, Begun, Slots, with_builder_to, fronted}
 
 pub building_by : {b : Bounds} {s : Registers} {fs : List ℕ} {a : Reached} → BuildingAt b fs a → a ≡ Go s → Building b s fs
 building_by {b = b} {fs = fs} h q = subst (λ x. BuildingCase b fs x) q h.by
 
--- over the words
-pub going_building : {b : Bounds} {fs : List ℕ} (g : List ℕ) {z : Registers} → regs g ≡ z → BuildingAt b fs (Go z) → BuildingAt b fs (reached Going g)
-unfolding reached
+-- a turn with the registers that are z
+pub going_building : {b : Bounds} {fs : List ℕ} (g : Registers) {z : Registers} → g ≡ z → BuildingAt b fs (Go z) → BuildingAt b fs (reached going g)
 going_building {b = b} {fs = fs} g e h = subst (λ (s : Registers). BuildingAt b fs (Go s)) (sym e) h
 
-pub halted_building : (b : Bounds) (fs : List ℕ) (w : Why) (n : ℕ) (g : List ℕ) → BuildingAt b fs (reached (Halted w n) g)
-unfolding reached
+pub halted_building : (b : Bounds) (fs : List ℕ) (w : Why) (n : ℕ) (g : Registers) → BuildingAt b fs (reached (halting w n) g)
 halted_building b fs w n g = record { by = tt }
 
 opened_abs : (o : Registers) (f : _) (ts rs ps es ks : List Row) (fs : List ℕ) (ns : List Row) → survivors fs f ≡ [] → abs (with_builder_to o f) ts rs ps es ks fs ns ≡ begin_builder (abs o ts rs ps es ks fs ns)
@@ -52,8 +49,8 @@ begun_sound {b = b} {o = o} {s = s} h k =
     rw h.same
     (record { hits = k.hits; misses = k.misses; generated = k.generated; pruned = omega (arith, k.pruned, l); work = k.work; tasks = k.tasks; results = k.results; pending = k.pending; memo = k.memo; kept = k.kept; plans = k.plans; stack = k.stack })
 
-pub begun_held : {b : Bounds} {g h : List ℕ} → Begun (regs g) (regs h) → length h ≡ length g → Held b g → Held b h
-begun_held p e r = record { room = omega (arith, r.room); sound = begun_sound p r.sound }
+pub begun_held : {b : Bounds} {g h : Registers} → Begun g h → Sound b g → Sound b h
+begun_held p r = begun_sound p r
 
 pub begun_kept : {o s : Registers} → Begun o s → Kept o s
 begun_kept h = rw h.same (record { memo = refl; results = refl; pending = omega arith })
@@ -63,7 +60,7 @@ pub begun_counts : {o s : Registers} → Begun o s → counts s ≡ counts o
 begun_counts {o = o} {s = s} h =
     let z : s.builder.used ≡ 0 = omega (arith, (h.opened.frontier [] 0 (omega arith) (omega arith)).within) in
     let e : max (max o.peaks.frontier o.builder.used) s.builder.used ≡ max o.peaks.frontier o.builder.used = omega (arith, z) in
-    ap counts h.same ∙ rw (e) refl
+    ap counts h.same ∙ rw e refl
 
 -- what is done with a begun frontier is done with the machine's empty one
 pub begun_from : {A : Type 0} {b : Bounds} {o s : Registers} {a : Reached} {f : Registers → A} (g : State → Prog A) → Begun o s → (ts rs ps es ks : List Row) (fs : List ℕ) (ns : List Row)

@@ -1,9 +1,9 @@
 -- Laws of results that are taken off, and of what is completed with them.
-use mathlib.Core.Path.{◌≡◌, refl, sym, ap, subst}
+use mathlib.Core.Path.{◌≡◌, refl, sym, subst}
 use mathlib.Core.List.{List}
 use Prim.Native.Nat.{ℕ, zero, suc, ◌+◌, ◌-◌, ◌≤◌}
 use native.Mathlib.Omega.{arith}
-use lib.ListN.{length, drop, set, length-set}
+use lib.ListN.{length, drop}
 use Rattle.layout.specs.Rules.{Rules}
 use Rattle.memo.specs.declared.MemoKey.{MemoKey}
 use Rattle.machine.specs.Events.{Counts, Prog, ret, ◌>>=◌}
@@ -19,8 +19,6 @@ use Rattle.solve_workspace.specs.Meets.{Sound, Meets, counts}
 use Rattle.solve_workspace.specs.Rows.{Row, abs, range_of, pile}
 use Rattle.solve_workspace.specs.Stacks.{pile_length, with_results_to}
 use Rattle.solve_workspace.specs.Frames.{Popped}
-use Rattle.solve_workspace.specs.Lent.{WORDS, RESULTS, regs, Held}
-use Rattle.solve_workspace.specs.Stores.{reads, stores, now_regs}
 pub use Rattle.solve_workspace.specs.FrameLaws.{memory_stopped}
 use Rattle.solve_workspace.specs.Work.{popped_from}
 use Rattle.solve_workspace.specs.Runs.{seq, halt}
@@ -59,12 +57,12 @@ fewer_is : (o s : Registers) (n : ℕ) (ts rs ps es ks ks' : List Row) (fs fs' :
 unfolding abs
 fewer_is o s n ts rs ps es ks ks' fs fs' ns ns' h = rw (pile_length range_of rs o.results, pile_drop range_of rs (o.results - n) n o.results (omega arith))
 
-fewer_from : {b : Bounds} {a : Reached} {f : Registers → State} (g : State → Prog State) (o s : Registers) (n : ℕ) (ts rs ps es ks ks' : List Row) (fs fs' : List ℕ) (ns ns' : List Row) → n ≤ o.results
+pub fewer_from : {b : Bounds} {a : Reached} {f : Registers → State} (g : State → Prog State) (o s : Registers) (n : ℕ) (ts rs ps es ks ks' : List Row) (fs fs' : List ℕ) (ns ns' : List Row) → n ≤ o.results
     → Meets b (counts s) (g (abs (with_results_to s n) ts rs ps es ks' fs' ns')) a f
     → Meets b (counts s) (g (with_results (drop (length (abs o ts rs ps es ks fs ns).results - n) (abs o ts rs ps es ks fs ns).results) (abs s ts rs ps es ks' fs' ns'))) a f
 fewer_from {b = b} {a = a} {f = f} g o s n ts rs ps es ks ks' fs fs' ns ns' h m = subst (λ (z : State). Meets b (counts s) (g z) a f) (fewer_is o s n ts rs ps es ks ks' fs fs' ns ns' h) m
 
-fewer_sound : {b : Bounds} (s : Registers) (n : ℕ) → n ≤ s.results → Sound b s → Sound b (with_results_to s n)
+pub fewer_sound : {b : Bounds} (s : Registers) (n : ℕ) → n ≤ s.results → Sound b s → Sound b (with_results_to s n)
 fewer_sound s n h k =
     record {
       hits = k.hits;
@@ -80,24 +78,3 @@ fewer_sound s n h k =
       kept = k.kept;
       plans = k.plans;
     }
-
--- ---- over the words: the word of the results is stored
-
-results_stored : (g : List ℕ) (n : ℕ) → WORDS ≤ length g → regs (set g RESULTS n) ≡ with_results_to (regs g) n
-results_stored g n l = now_regs (stores RESULTS n (omega arith) (reads g l))
-
-pub stored_memo : (g : List ℕ) (n : ℕ) → WORDS ≤ length g → (regs (set g RESULTS n)).memo ≡ (regs g).memo
-stored_memo g n l = ap (λ (s : Registers). s.memo) (results_stored g n l)
-
-pub stored_held : {b : Bounds} (g : List ℕ) (n : ℕ) → n ≤ (regs g).results → Held b g → Held b (set g RESULTS n)
-stored_held {b = b} g n h k =
-    record {
-      room = omega (arith, length-set g RESULTS n, k.room);
-      sound = subst (λ (s : Registers). Sound b s) (sym (results_stored g n k.room)) (fewer_sound (regs g) n h k.sound);
-    }
-
-pub stored_from : {b : Bounds} {a : Reached} {f : Registers → State} (p : State → Prog State) (o : Registers) (g : List ℕ) (n : ℕ) (ts rs ps es ks ks' : List Row) (fs fs' : List ℕ) (ns ns' : List Row) → WORDS ≤ length g → n ≤ o.results
-    → Meets b (counts (regs (set g RESULTS n))) (p (abs (regs (set g RESULTS n)) ts rs ps es ks' fs' ns')) a f
-    → Meets b (counts (regs g)) (p (with_results (drop (length (abs o ts rs ps es ks fs ns).results - n) (abs o ts rs ps es ks fs ns).results) (abs (regs g) ts rs ps es ks' fs' ns'))) a f
-stored_from {b = b} {a = a} {f = f} p o g n ts rs ps es ks ks' fs fs' ns ns' l h m =
-    fewer_from p o (regs g) n ts rs ps es ks ks' fs fs' ns ns' h (subst (λ (s : Registers). Meets b (counts s) (p (abs s ts rs ps es ks' fs' ns')) a f) (results_stored g n l) m)

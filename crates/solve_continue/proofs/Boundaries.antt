@@ -1,10 +1,9 @@
 -- Laws of the gap before a child.
-use mathlib.Core.Path.{◌≡◌, refl, sym, ap, ◌∙◌, subst}
+use mathlib.Core.Path.{◌≡◌, sym, ◌∙◌, subst}
 use mathlib.Core.Bool.{Bool, true, false}
 use mathlib.Core.List.{List}
-use Prim.Native.Nat.{ℕ, ◌^◌, ◌≤◌, ◌<◌}
-use native.Mathlib.Omega.{arith}
-use lib.ListN.{length, set}
+use Prim.Native.Nat.{ℕ, ◌≤◌}
+use lib.ListN.{length}
 use Rattle.layout.specs.Rules.{Rules}
 use Rattle.layout.specs.Table.{Node}
 use Rattle.machine.specs.Events.{Counts, ret, ◌>>=◌}
@@ -17,24 +16,19 @@ use Rattle.solve_workspace.specs.Reading.{prepared}
 pub use Rattle.solve_workspace.specs.Reading.{any_space}
 use borrow.Author.Tests.{lt-ltb, le-ltb}
 use Rattle.solve_workspace.specs.declared.Why.{Why}
-use Rattle.solve_node.specs.declared.NodeLink.{NodeLink}
-use Rattle.solve_node.specs.declared.NodeLink.TheVariants.{Node as Linked, Nothing}
+use Rattle.std.specs.Prelude.{Some, None}
 use Rattle.solve_continue.specs.Children.{ChildNumber}
 use Rattle.solve_workspace.specs.declared.Bounds.{Bounds}
 use Rattle.solve_workspace.specs.declared.Registers.{Registers}
 use Rattle.solve_workspace.specs.declared.Reached.{Reached}
 use Rattle.solve_workspace.specs.declared.Reached.TheVariants.{Go, Stop}
-use Rattle.solve_workspace.specs.declared.Turn.TheVariants.{Going}
 use Rattle.solve_workspace.specs.Meets.{Meets, counts, Sound}
 use Rattle.solve_workspace.specs.Frames.{Kept, Keeps}
 pub use Rattle.solve_workspace.specs.FrameLaws.{kept_same}
-use Rattle.solve_workspace.specs.Rows.{Row, abs, low, scratch_of}
+use Rattle.solve_workspace.specs.Rows.{Row, abs, scratch_of}
 use Rattle.solve_workspace.specs.Runs.{seq, halt}
-use Rattle.solve_workspace.specs.Words.{low_is}
-use Rattle.solve_workspace.specs.Lent.{WORDS, START, LEN, regs, Held, reached}
-use Rattle.solve_workspace.specs.Stores.{stores, reads, now_regs, going_meets, going_keeps}
 use Rattle.solve_workspace.specs.Stacks.{row_list_length, with_pending_to}
-use Rattle.solve_node.specs.Begun.{Filling, ChildIs, ChildCase}
+use Rattle.solve_node.specs.Begun.{Filling, ChildIs}
 
 pub fill_is : (R : Rules) (P : Prepared) (i l indent : ℕ) (s : Registers) (ts rs ps es ks : List Row) (fs : List ℕ) (ns : List Row) → s.pending ≤ length ps
     → fill_boundary R P (range i l) indent (abs s ts rs ps es ks fs ns) ≡ (push_gaps R P indent i l (abs s ts rs ps es ks fs ns) >>= build_pending s.pending)
@@ -56,29 +50,11 @@ range_sound : {b : Bounds} {s : Registers} (i l : ℕ) → Sound b s → Sound b
 range_sound i l h =
     record { hits = h.hits; misses = h.misses; generated = h.generated; pruned = h.pruned; work = h.work; tasks = h.tasks; results = h.results; pending = h.pending; memo = h.memo; kept = h.kept; plans = h.plans; stack = h.stack }
 
-gap_none : {b : Bounds} {n : Node} {t : Bool} (R : Rules) (P : Prepared) (i l indent : ℕ) (s : Registers) (ts rs ps es ks : List Row) (fs : List ℕ) (ns : List Row) → Filling n t → t ≡ false → Sound b s
+pub gap_none : {b : Bounds} {n : Node} {t : Bool} (R : Rules) (P : Prepared) (i l indent : ℕ) (s : Registers) (ts rs ps es ks : List Row) (fs : List ℕ) (ns : List Row) → Filling n t → t ≡ false → Sound b s
     → Meets b (counts s) (gap_if_fill R P n (range i l) indent (abs s ts rs ps es ks fs ns)) (Go (with_range s i l)) (λ z. got (range z.start z.len) (abs z ts rs ps es ks fs ns))
 unfolding abs
 gap_none R P i l indent s ts rs ps es ks fs ns h e snd =
     record { is = rw (h.no R P (range i l) indent (abs s ts rs ps es ks fs ns) e); sound = range_sound i l snd }
-
--- the words with a range
-abbrev pub ranged : List ℕ → ℕ → ℕ → List ℕ
-ranged g i l = set (set g START i) LEN l
-
-module _ (g : List ℕ) (i l : ℕ) (h : i < 2 ^ 32) (k : l < 2 ^ 32) where
-  range_stored : WORDS ≤ length g → regs (ranged g i l) ≡ with_range (regs g) i l
-  range_stored r =
-      now_regs (stores LEN l (omega arith) (stores START i (omega arith) (reads g r)))
-      ∙ (ap (λ (z : ℕ). with_range (regs g) z (low l)) (low_is i h) ∙ ap (λ (z : ℕ). with_range (regs g) i z) (low_is l k))
-
-  pub gap_off : {b : Bounds} {n : Node} {t : Bool} (R : Rules) (P : Prepared) (indent : ℕ) (ts rs ps es ks : List Row) (fs : List ℕ) (ns : List Row) → Filling n t → t ≡ false → Held b g
-      → Meets b (counts (regs g)) (gap_if_fill R P n (range i l) indent (abs (regs g) ts rs ps es ks fs ns)) (reached Going (ranged g i l)) (λ z. got (range z.start z.len) (abs z ts rs ps es ks fs ns))
-  gap_off R P indent ts rs ps es ks fs ns f e r =
-      going_meets (ranged g i l) (range_stored r.room) (gap_none R P i l indent (regs g) ts rs ps es ks fs ns f e r.sound)
-
-  pub gap_keeps : {b : Bounds} → Held b g → Keeps (regs g) (reached Going (ranged g i l))
-  gap_keeps r = going_keeps (ranged g i l) (range_stored r.room) (record { by = record { memo = refl; results = refl; pending = omega arith } })
 
 -- ---- the next child
 
@@ -102,8 +78,8 @@ unfolding next_child
 next_halt R P q x i l S h e = halt (λ G. push_right R P q x G.range 0 (length G.state.pending) G.state) h e
 
 -- a child is there, or none
-pub child_is : {t : Tables} (n x : ℕ) (r : NodeLink) (k : NodeId) → ChildIs (children ((prepared t).table.node n)) x r → r ≡ Linked k → ChildNumber t n x k.0
-child_is {t = t} n x r k h e = let c = subst (λ y. ChildCase (children ((prepared t).table.node n)) x y) e h.by in record { there = c.0; is = c.1 }
+pub child_is : (t : Tables) (n x : ℕ) (k : NodeId) → ChildIs (children ((prepared t).table.node n)) x (Some k) → ChildNumber t n x k.0
+child_is t n x k h = record { there = h.by.0; is = h.by.1 }
 
 pub continue_child : {b : Bounds} {k : Counts} {a : Reached} {g : Registers → State} (R : Rules) (t : Tables) (q : MemoKey) (x n i l : ℕ) (S T : State) → pop_exact_result S ≡ ret (got (range i l) T) → ChildNumber t q.node x n
     → Meets b k (next_child R (prepared t) true q x (range i l) T) a g → Meets b k (continue_sequence R (prepared t) q x S) a g
@@ -111,10 +87,9 @@ unfolding continue_sequence
 continue_child {b = b} {k = k} {a = a} {g = g} R t q x n i l S T e c m =
     rw (e, lt-ltb x (length (children ((prepared t).table.node q.node))) c.there) m
 
-pub continue_done : {b : Bounds} {k : Counts} {a : Reached} {g : Registers → State} (R : Rules) (t : Tables) (q : MemoKey) (x i l : ℕ) (r : NodeLink) (S T : State) → pop_exact_result S ≡ ret (got (range i l) T)
-    → ChildIs (children ((prepared t).table.node q.node)) x r → r ≡ Nothing
+pub continue_done : {b : Bounds} {k : Counts} {a : Reached} {g : Registers → State} (R : Rules) (t : Tables) (q : MemoKey) (x i l : ℕ) (S T : State) → pop_exact_result S ≡ ret (got (range i l) T)
+    → ChildIs (children ((prepared t).table.node q.node)) x None
     → Meets b k (complete_node q (range i l) T) a g → Meets b k (continue_sequence R (prepared t) q x S) a g
 unfolding continue_sequence next_child
-continue_done {b = b} {k = k} {a = a} {g = g} R t q x i l r S T e h f m =
-    let c : length (children ((prepared t).table.node q.node)) ≤ x = subst (λ y. ChildCase (children ((prepared t).table.node q.node)) x y) f h.by in
-    rw (e, le-ltb x (length (children ((prepared t).table.node q.node))) c) m
+continue_done {b = b} {k = k} {a = a} {g = g} R t q x i l S T e h m =
+    rw (e, le-ltb x (length (children ((prepared t).table.node q.node))) h.by) m

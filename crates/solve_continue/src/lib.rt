@@ -4,9 +4,9 @@
 ghost use Rattle.std.specs.Prelude.{◌≡◌, true, List, ℕ, ◌≤◌, length};
 ghost use Rattle.machine.specs.Model.{Prepared, range, got};
 ghost use Rattle.machine.specs.Solver.{fill_boundary, gap_if_fill, next_child, continue_sequence};
-ghost use Rattle.solve_workspace.specs.Meets.{Meets, counts};
+ghost use Rattle.solve_workspace.specs.Meets.{Meets, counts, Sound};
 ghost use Rattle.solve_workspace.specs.Frames.{Keeps, Memory, MemoryAt};
-ghost use Rattle.solve_workspace.specs.Lent.{regs, Held, reached};
+ghost use Rattle.solve_workspace.specs.Turns.{reached};
 ghost use Rattle.solve_workspace.specs.Reading.{tables, prepared, rules};
 ghost use Rattle.solve_workspace.specs.Rows.{Row, abs};
 ghost use Rattle.solve_builder.specs.Building.{Slots};
@@ -14,14 +14,13 @@ ghost use Rattle.solve_continue.specs.Children.{ChildNumber};
 
 use file_tables::{NodeId, TextId};
 use memo::MemoKey;
-use solve_node::NodeLink;
-use solve_workspace::{Bounds, LEN, PENDING, RenderOptions, START, Turn};
+use solve_workspace::{Bounds, Halt, Registers, RenderOptions};
 
 // After each candidate of a range a space or a newline.
 pub fn fill_boundary(
     options: RenderOptions,
     b: Bounds,
-    g: &mut [u64],
+    g: &mut Registers,
     frontier: &mut [u64],
     kept: &mut [[u64; 6]],
     plans: &mut [[u32; 3]],
@@ -30,18 +29,15 @@ pub fn fill_boundary(
     start: u32,
     len: u32,
     indent: u32,
-) -> Turn
-    requires { Slots b frontier.old × ((b.kept ≤ length kept.old) × ((b.plans ≤ length plans.old) × ((b.stack ≤ length pending.old) × Held b g.old))) }
-    ensures meets { (P : Prepared) (ts rs es : List Row) → P.space_text ≡ space.0 → Meets b (counts (regs g.old)) (fill_boundary (rules options) P (range start len) indent (abs (regs g.old) ts rs pending.old es kept.old frontier.old plans.old)) (reached result g.new) (λ s. got (range s.start s.len) (abs s ts rs pending.new es kept.new frontier.new plans.new)) }
-    ensures keeps { Keeps (regs g.old) (reached result g.new) }
+) -> Result<(), Halt>
+    requires { Slots b frontier.old × ((b.kept ≤ length kept.old) × ((b.plans ≤ length plans.old) × ((b.stack ≤ length pending.old) × Sound b g.old))) }
+    ensures meets { (P : Prepared) (ts rs es : List Row) → P.space_text ≡ space.0 → Meets b (counts g.old) (fill_boundary (rules options) P (range start len) indent (abs g.old ts rs pending.old es kept.old frontier.old plans.old)) (reached result g.new) (λ s. got (range s.start s.len) (abs s ts rs pending.new es kept.new frontier.new plans.new)) }
+    ensures keeps { Keeps g.old (reached result g.new) }
 {
-    let from = g[PENDING] as usize;
-    let a = solve_gaps::push_gaps(
+    let from = g.pending;
+    solve_gaps::push_gaps(
         options, b, g, frontier, kept, plans, pending, space, start, len, indent,
-    );
-    let Turn::Going = a else {
-        return a;
-    };
+    )?;
     solve_ranges::build_pending(b, g, frontier, pending, kept, plans, from)
 }
 
@@ -49,7 +45,7 @@ pub fn fill_boundary(
 fn gap_if_fill(
     options: RenderOptions,
     b: Bounds,
-    g: &mut [u64],
+    g: &mut Registers,
     nodes: &[[u32; 8]],
     frontier: &mut [u64],
     kept: &mut [[u64; 6]],
@@ -59,26 +55,26 @@ fn gap_if_fill(
     key: MemoKey,
     start: u32,
     len: u32,
-) -> Turn
-    requires { Slots b frontier.old × ((b.kept ≤ length kept.old) × ((b.plans ≤ length plans.old) × ((b.stack ≤ length pending.old) × Held b g.old))) }
-    ensures meets { (edges choices : List ℕ) (texts : List Row) (bytes : List ℕ) (annotations root : ℕ) (ts rs es : List Row) → Meets b (counts (regs g.old)) (gap_if_fill (rules options) (prepared (tables nodes.now edges choices texts bytes annotations root space.0)) ((prepared (tables nodes.now edges choices texts bytes annotations root space.0)).table.node key.node) (range start len) key.indent (abs (regs g.old) ts rs pending.old es kept.old frontier.old plans.old)) (reached result g.new) (λ s. got (range s.start s.len) (abs s ts rs pending.new es kept.new frontier.new plans.new)) }
-    ensures keeps { Keeps (regs g.old) (reached result g.new) }
+) -> Result<(), Halt>
+    requires { Slots b frontier.old × ((b.kept ≤ length kept.old) × ((b.plans ≤ length plans.old) × ((b.stack ≤ length pending.old) × Sound b g.old))) }
+    ensures meets { (edges choices : List ℕ) (texts : List Row) (bytes : List ℕ) (annotations root : ℕ) (ts rs es : List Row) → Meets b (counts g.old) (gap_if_fill (rules options) (prepared (tables nodes.now edges choices texts bytes annotations root space.0)) ((prepared (tables nodes.now edges choices texts bytes annotations root space.0)).table.node key.node) (range start len) key.indent (abs g.old ts rs pending.old es kept.old frontier.old plans.old)) (reached result g.new) (λ s. got (range s.start s.len) (abs s ts rs pending.new es kept.new frontier.new plans.new)) }
+    ensures keeps { Keeps g.old (reached result g.new) }
 {
     if solve_node::is_fill(nodes, NodeId(key.node)) {
         return fill_boundary(
             options, b, g, frontier, kept, plans, pending, space, start, len, key.indent,
         );
     }
-    g[START] = start as u64;
-    g[LEN] = len as u64;
-    Turn::Going
+    g.start = start;
+    g.len = len;
+    Ok(())
 }
 
 // The next child, at the column where the first of the candidates so far ends.
 fn next_child(
     options: RenderOptions,
     b: Bounds,
-    g: &mut [u64],
+    g: &mut Registers,
     nodes: &[[u32; 8]],
     tasks: &mut [[u32; 9]],
     frontier: &mut [u64],
@@ -91,20 +87,17 @@ fn next_child(
     child_index: u32,
     start: u32,
     len: u32,
-) -> Turn
-    requires { (b.stack ≤ length tasks.old) × (Slots b frontier.old × ((b.kept ≤ length kept.old) × ((b.plans ≤ length plans.old) × ((b.stack ≤ length pending.old) × Held b g.old)))) }
-    ensures meets { (edges choices : List ℕ) (texts : List Row) (bytes : List ℕ) (annotations root : ℕ) (rs es : List Row) → ChildNumber (tables nodes.now edges choices texts bytes annotations root space.0) key.node child_index child.0 → Meets b (counts (regs g.old)) (next_child (rules options) (prepared (tables nodes.now edges choices texts bytes annotations root space.0)) true key child_index (range start len) (abs (regs g.old) tasks.old rs pending.old es kept.old frontier.old plans.old)) (reached result g.new) (λ s. abs s tasks.new rs pending.new es kept.new frontier.new plans.new) }
-    ensures keeps { Keeps (regs g.old) (reached result g.new) }
+) -> Result<(), Halt>
+    requires { (b.stack ≤ length tasks.old) × (Slots b frontier.old × ((b.kept ≤ length kept.old) × ((b.plans ≤ length plans.old) × ((b.stack ≤ length pending.old) × Sound b g.old)))) }
+    ensures meets { (edges choices : List ℕ) (texts : List Row) (bytes : List ℕ) (annotations root : ℕ) (rs es : List Row) → ChildNumber (tables nodes.now edges choices texts bytes annotations root space.0) key.node child_index child.0 → Meets b (counts g.old) (next_child (rules options) (prepared (tables nodes.now edges choices texts bytes annotations root space.0)) true key child_index (range start len) (abs g.old tasks.old rs pending.old es kept.old frontier.old plans.old)) (reached result g.new) (λ s. abs s tasks.new rs pending.new es kept.new frontier.new plans.new) }
+    ensures keeps { Keeps g.old (reached result g.new) }
 {
-    let a = gap_if_fill(
+    gap_if_fill(
         options, b, g, nodes, frontier, kept, plans, pending, space, key, start, len,
-    );
-    let Turn::Going = a else {
-        return a;
-    };
-    let from = g[PENDING] as u32;
-    let made_start = (g[START] % 4294967296) as u32;
-    let made_len = (g[LEN] % 4294967296) as u32;
+    )?;
+    let from = g.pending as u32;
+    let made_start = g.start;
+    let made_len = g.len;
     solve_join::push_right(
         b,
         g,
@@ -124,7 +117,7 @@ fn next_child(
 pub fn continue_sequence(
     options: RenderOptions,
     b: Bounds,
-    g: &mut [u64],
+    g: &mut Registers,
     nodes: &[[u32; 8]],
     edges: &[u32],
     tasks: &mut [[u32; 9]],
@@ -138,19 +131,17 @@ pub fn continue_sequence(
     space: TextId,
     key: MemoKey,
     child_index: u32,
-) -> Turn
-    requires { (1 ≤ (regs g.old).results) × ((b.stack ≤ length results.old) × (Memory b (regs g.old).memo index.old entries.old × ((b.stack ≤ length tasks.old) × (Slots b frontier.old × ((b.kept ≤ length kept.old) × ((b.plans ≤ length plans.old) × ((b.stack ≤ length pending.old) × Held b g.old))))))) }
-    ensures meets { (choices : List ℕ) (texts : List Row) (bytes : List ℕ) (annotations root : ℕ) → Meets b (counts (regs g.old)) (continue_sequence (rules options) (prepared (tables nodes.now edges.now choices texts bytes annotations root space.0)) key child_index (abs (regs g.old) tasks.old results.old pending.old entries.old kept.old frontier.old plans.old)) (reached result g.new) (λ s. abs s tasks.new results.new pending.new entries.new kept.new frontier.new plans.new) }
+) -> Result<(), Halt>
+    requires { (1 ≤ g.old.results) × ((b.stack ≤ length results.old) × (Memory b g.old.memo index.old entries.old × ((b.stack ≤ length tasks.old) × (Slots b frontier.old × ((b.kept ≤ length kept.old) × ((b.plans ≤ length plans.old) × ((b.stack ≤ length pending.old) × Sound b g.old))))))) }
+    ensures meets { (choices : List ℕ) (texts : List Row) (bytes : List ℕ) (annotations root : ℕ) → Meets b (counts g.old) (continue_sequence (rules options) (prepared (tables nodes.now edges.now choices texts bytes annotations root space.0)) key child_index (abs g.old tasks.old results.old pending.old entries.old kept.old frontier.old plans.old)) (reached result g.new) (λ s. abs s tasks.new results.new pending.new entries.new kept.new frontier.new plans.new) }
     ensures memory { MemoryAt b index.new entries.new (reached result g.new) }
 {
     solve_workspace::pop_exact_result(g, results);
-    let start = (g[START] % 4294967296) as u32;
-    let len = (g[LEN] % 4294967296) as u32;
+    let start = g.start;
+    let len = g.len;
     match solve_node::sequence_child(nodes, edges, NodeId(key.node), child_index) {
-        NodeLink::Nothing => solve_workspace::complete_node(
-            b, g, index, entries, results, key, start, len,
-        ),
-        NodeLink::Node(child) => next_child(
+        None => solve_workspace::complete_node(b, g, index, entries, results, key, start, len),
+        Some(child) => next_child(
             options,
             b,
             g,

@@ -9,8 +9,7 @@ use Rattle.cost.specs.Cost.{Cost}
 use Rattle.cost.specs.Value.{text_outcome, outcome, value}
 use Rattle.cost.specs.declared.ConsumerCost.{ConsumerCost}
 use Rattle.cost.specs.declared.Reason.{Reason}
-use Rattle.cost.specs.declared.Costed.{Costed}
-use Rattle.cost.specs.declared.Costed.TheVariants.{Cost as Is, Failed}
+use Rattle.std.specs.Prelude.{Result, Ok, Err}
 use Rattle.layout.specs.Rules.{Rules}
 use Rattle.frontier.specs.declared.ScratchCandidate.{ScratchCandidate}
 use Rattle.frontier.specs.Candidates.{carried}
@@ -29,20 +28,18 @@ use Rattle.solve_workspace.specs.Meets.{Meets, Leads, counts}
 use Rattle.solve_workspace.specs.Rows.{survivor}
 pub use Rattle.solve_workspace.specs.Reading.{any_space}
 use Rattle.solve_workspace.specs.Reading.{rules}
-use Rattle.solve_workspace.specs.Runs.{leads_seq, halt, via}
+use Rattle.solve_workspace.specs.Runs.{leads_refl, leads_seq, halt, via}
 use Rattle.solve_workspace.specs.Costs.{text_fine, text_stop, column_go}
-use Rattle.solve_node.specs.declared.LeafCandidate.{LeafCandidate}
-use Rattle.solve_node.specs.declared.LeafCandidate.TheVariants.{Candidate as ACandidate, Failed as NoPlace}
-use Rattle.solve_node.specs.Begun.{leaf_scratch}
+use Rattle.solve_node.specs.Begun.{LeafCandidate, leaf_scratch}
 use Rattle.solve_gaps.specs.Gaps.{spacing, bounding, gap}
 
-pub space_stop : {b : Bounds} (o : RenderOptions) (column indent : ℕ) (P : Prepared) (s : Registers) (r : Costed) (y : Reason) (S : State) (f : Registers → Got) → outcome r ≡ text_outcome o.rule o.width column 1 → r ≡ Failed y
+pub space_stop : {b : Bounds} (o : RenderOptions) (column indent : ℕ) (P : Prepared) (s : Registers) (r : Result ConsumerCost Reason) (y : Reason) (S : State) (f : Registers → Got) → outcome r ≡ text_outcome o.rule o.width column 1 → r ≡ Err y
     → Meets b (counts s) (bounding (rules o) P column indent S) (Stop (Domain y) 0 s) f
 unfolding bounding checked_text
 space_stop o column indent P s r y S f e q = text_stop s o column 1 r y _ f e q
 
-pub space_go : {b : Bounds} {k : Counts} {a : Reached} {f : Registers → Got} (o : RenderOptions) (column indent x : ℕ) (P : Prepared) (r : Costed) (c : ConsumerCost) (d : ScratchCandidate) (S : State)
-    → outcome r ≡ text_outcome o.rule o.width column 1 → r ≡ Is c → survivor (carried d) ≡ scratch (value c) (column + 1) (Made (PlanText x)) → P.space_text ≡ x
+pub space_go : {b : Bounds} {k : Counts} {a : Reached} {f : Registers → Got} (o : RenderOptions) (column indent x : ℕ) (P : Prepared) (r : Result ConsumerCost Reason) (c : ConsumerCost) (d : ScratchCandidate) (S : State)
+    → outcome r ≡ text_outcome o.rule o.width column 1 → r ≡ Ok c → survivor (carried d) ≡ scratch (value c) (column + 1) (Made (PlanText x)) → P.space_text ≡ x
     → Meets b k (spacing (rules o) P (survivor (carried d)) indent S) a f → Meets b k (bounding (rules o) P column indent S) a f
 unfolding bounding checked_text
 space_go {b = b} {k = k} {a = a} {f = f} o column indent x P r c d S e q g t m =
@@ -91,14 +88,17 @@ module _ (R : Rules) (P : Prepared) where
   unfolding push_gaps
   gaps_none indent i n S e = rw e
 
+pub gaps_from : {b : Bounds} {k : Counts} (R : Rules) (P : Prepared) (indent i n m : ℕ) (S : State) → m ≡ n → Leads b k (push_gaps R P indent i n S) k (push_gaps R P indent i m S)
+gaps_from R P indent i n m S e = rw e leads_refl
+
 pub present_as : {b : Bounds} {k : Counts} {a : Reached} {f : Registers → State} {x y : Scratch} (S : State) → x ≡ y → Meets b k (present x S) a f → Meets b k (present y S) a f
 present_as {b = b} {k = k} {a = a} {f = f} S e m = subst (λ z. Meets b k (present z S) a f) e m
 
 -- what has its place is not said to have none
-pub line_has_place : {A : Type 0} (r : LeafCandidate) (y : Reason) (x : Scratch) → leaf_scratch r ≡ some x → r ≡ NoPlace y → A
+pub line_has_place : {A : Type 0} (r : LeafCandidate) (y : Reason) (x : Scratch) → leaf_scratch r ≡ some x → r ≡ Err y → A
 line_has_place r y x e q =
     let g : none ≡ some x = sym (ap leaf_scratch q) ∙ e in
     let z : ◌≡◌ {A = ℕ} 0 1 = cc in absurd (omega arith)
 
-pub line_is : (r : LeafCandidate) (c : ScratchCandidate) (x : Scratch) → leaf_scratch r ≡ some x → r ≡ ACandidate c → survivor (carried c) ≡ x
+pub line_is : (r : LeafCandidate) (c : ScratchCandidate) (x : Scratch) → leaf_scratch r ≡ some x → r ≡ Ok c → survivor (carried c) ≡ x
 line_is r c x e q = let g : some (survivor (carried c)) ≡ some x = sym (ap leaf_scratch q) ∙ e in cc

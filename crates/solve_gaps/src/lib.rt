@@ -5,64 +5,55 @@ ghost use Rattle.std.specs.Prelude.{◌≡◌, List, ◌+◌, ◌≤◌, ◌<◌
 ghost use Rattle.frontier.specs.Candidates.{carried};
 ghost use Rattle.machine.specs.Model.{Prepared, range, got};
 ghost use Rattle.machine.specs.Solver.{push_gaps as gaps-pushed, present as presented, newline};
-ghost use Rattle.solve_workspace.specs.Meets.{Meets, counts};
+ghost use Rattle.solve_workspace.specs.Meets.{Meets, counts, Sound};
 ghost use Rattle.solve_workspace.specs.Frames.{Keeps};
-ghost use Rattle.solve_workspace.specs.Lent.{regs, Held, reached};
+ghost use Rattle.solve_workspace.specs.Turns.{reached};
 ghost use Rattle.solve_workspace.specs.Reading.{rules};
 ghost use Rattle.solve_workspace.specs.Rows.{Row, abs, survivor, candidate};
 ghost use Rattle.solve_builder.specs.Building.{Slots, Building, BuildingAt};
 ghost use Rattle.solve_gaps.specs.Gaps.{spacing, bounding, gap};
 
-use cost::{ConsumerCost, Costed};
+use cost::ConsumerCost;
 use file_tables::TextId;
 use frontier::ScratchCandidate;
-use plan::PendingPlan;
-use solve_node::LeafCandidate;
-use solve_workspace::{Bounds, Candidate, KEPT, LEN, RenderOptions, START, Turn, Why};
+use plan::{PendingPlan, PlanNode};
+use solve_workspace::{Bounds, Candidate, Halt, Registers, RenderOptions};
 
 // A newline to an indent, presented after the space.
 fn present_newline(
     options: RenderOptions,
     b: Bounds,
-    g: &mut [u64],
+    g: &mut Registers,
     frontier: &mut [u64],
     indent: u32,
-) -> Turn
-    requires { Building b (regs g.old) frontier.old × Held b g.old }
-    ensures meets { (P : Prepared) (ts rs ps es ks ns : List Row) → Meets b (counts (regs g.old)) (presented (newline (rules options) P indent) (abs (regs g.old) ts rs ps es ks frontier.old ns)) (reached result g.new) (λ s. abs s ts rs ps es ks frontier.new ns) }
+) -> Result<(), Halt>
+    requires { Building b g.old frontier.old × Sound b g.old }
+    ensures meets { (P : Prepared) (ts rs ps es ks ns : List Row) → Meets b (counts g.old) (presented (newline (rules options) P indent) (abs g.old ts rs ps es ks frontier.old ns)) (reached result g.new) (λ s. abs s ts rs ps es ks frontier.new ns) }
     ensures building { BuildingAt b frontier.new (reached result g.new) }
-    ensures keeps { Keeps (regs g.old) (reached result g.new) }
+    ensures keeps { Keeps g.old (reached result g.new) }
 {
-    match solve_node::newline_candidate(options, indent) {
-        LeafCandidate::Failed(reason) => Turn::Halted(Why::Domain(reason), 0),
-        LeafCandidate::Candidate(line) => solve_builder::present(b, g, frontier, line),
-    }
+    let line = solve_node::newline_candidate(options, indent)?;
+    solve_builder::present(b, g, frontier, line)
 }
 
 // The frontier of a space and of a newline.
 fn space_or_newline(
     options: RenderOptions,
     b: Bounds,
-    g: &mut [u64],
+    g: &mut Registers,
     frontier: &mut [u64],
     kept: &mut [[u64; 6]],
     plans: &mut [[u32; 3]],
     space: ScratchCandidate,
     indent: u32,
-) -> Turn
-    requires { Slots b frontier.old × ((b.kept ≤ length kept.old) × ((b.plans ≤ length plans.old) × Held b g.old)) }
-    ensures meets { (P : Prepared) (ts rs ps es : List Row) → Meets b (counts (regs g.old)) (spacing (rules options) P (survivor (carried space)) indent (abs (regs g.old) ts rs ps es kept.old frontier.old plans.old)) (reached result g.new) (λ s. got (range s.start s.len) (abs s ts rs ps es kept.new frontier.new plans.new)) }
-    ensures keeps { Keeps (regs g.old) (reached result g.new) }
+) -> Result<(), Halt>
+    requires { Slots b frontier.old × ((b.kept ≤ length kept.old) × ((b.plans ≤ length plans.old) × Sound b g.old)) }
+    ensures meets { (P : Prepared) (ts rs ps es : List Row) → Meets b (counts g.old) (spacing (rules options) P (survivor (carried space)) indent (abs g.old ts rs ps es kept.old frontier.old plans.old)) (reached result g.new) (λ s. got (range s.start s.len) (abs s ts rs ps es kept.new frontier.new plans.new)) }
+    ensures keeps { Keeps g.old (reached result g.new) }
 {
     solve_builder::begin_builder(g);
-    let a = solve_builder::present(b, g, frontier, space);
-    let Turn::Going = a else {
-        return a;
-    };
-    let a2 = present_newline(options, b, g, frontier, indent);
-    let Turn::Going = a2 else {
-        return a2;
-    };
+    solve_builder::present(b, g, frontier, space)?;
+    present_newline(options, b, g, frontier, indent)?;
     solve_builder::finish_builder(b, g, frontier, kept, plans)
 }
 
@@ -70,34 +61,30 @@ fn space_or_newline(
 fn boundary(
     options: RenderOptions,
     b: Bounds,
-    g: &mut [u64],
+    g: &mut Registers,
     frontier: &mut [u64],
     kept: &mut [[u64; 6]],
     plans: &mut [[u32; 3]],
     space: TextId,
     column: u32,
     indent: u32,
-) -> Turn
-    requires { Slots b frontier.old × ((b.kept ≤ length kept.old) × ((b.plans ≤ length plans.old) × Held b g.old)) }
-    ensures meets { (P : Prepared) (ts rs ps es : List Row) → P.space_text ≡ space.0 → Meets b (counts (regs g.old)) (bounding (rules options) P column indent (abs (regs g.old) ts rs ps es kept.old frontier.old plans.old)) (reached result g.new) (λ s. got (range s.start s.len) (abs s ts rs ps es kept.new frontier.new plans.new)) }
-    ensures keeps { Keeps (regs g.old) (reached result g.new) }
+) -> Result<(), Halt>
+    requires { Slots b frontier.old × ((b.kept ≤ length kept.old) × ((b.plans ≤ length plans.old) × Sound b g.old)) }
+    ensures meets { (P : Prepared) (ts rs ps es : List Row) → P.space_text ≡ space.0 → Meets b (counts g.old) (bounding (rules options) P column indent (abs g.old ts rs ps es kept.old frontier.old plans.old)) (reached result g.new) (λ s. got (range s.start s.len) (abs s ts rs ps es kept.new frontier.new plans.new)) }
+    ensures keeps { Keeps g.old (reached result g.new) }
 {
     let model = solve_workspace::cost_model(options);
-    match ConsumerCost::text(model, column, 1) {
-        Costed::Failed(reason) => Turn::Halted(Why::Domain(reason), 0),
-        Costed::Cost(cost) => {
-            let last = column + 1;
-            let c = solve_workspace::scratch_candidate(cost, last, PendingPlan::Text(space));
-            space_or_newline(options, b, g, frontier, kept, plans, c, indent)
-        }
-    }
+    let cost = ConsumerCost::text(model, column, 1)?;
+    let plan = PendingPlan::New(PlanNode::Text(space));
+    let c = solve_workspace::scratch_candidate(cost, column + 1, plan);
+    space_or_newline(options, b, g, frontier, kept, plans, c, indent)
 }
 
 // One candidate, followed by what may stand in the gap.
 fn push_gap(
     options: RenderOptions,
     b: Bounds,
-    g: &mut [u64],
+    g: &mut Registers,
     frontier: &mut [u64],
     kept: &mut [[u64; 6]],
     plans: &mut [[u32; 3]],
@@ -105,19 +92,16 @@ fn push_gap(
     space: TextId,
     left: Candidate,
     indent: u32,
-) -> Turn
-    requires { Slots b frontier.old × ((b.kept ≤ length kept.old) × ((b.plans ≤ length plans.old) × ((b.stack ≤ length pending.old) × Held b g.old))) }
-    ensures meets { (P : Prepared) (ts rs es : List Row) → P.space_text ≡ space.0 → Meets b (counts (regs g.old)) (gap (rules options) P (candidate left) indent (abs (regs g.old) ts rs pending.old es kept.old frontier.old plans.old)) (reached result g.new) (λ s. abs s ts rs pending.new es kept.new frontier.new plans.new) }
-    ensures keeps { Keeps (regs g.old) (reached result g.new) }
+) -> Result<(), Halt>
+    requires { Slots b frontier.old × ((b.kept ≤ length kept.old) × ((b.plans ≤ length plans.old) × ((b.stack ≤ length pending.old) × Sound b g.old))) }
+    ensures meets { (P : Prepared) (ts rs es : List Row) → P.space_text ≡ space.0 → Meets b (counts g.old) (gap (rules options) P (candidate left) indent (abs g.old ts rs pending.old es kept.old frontier.old plans.old)) (reached result g.new) (λ s. abs s ts rs pending.new es kept.new frontier.new plans.new) }
+    ensures keeps { Keeps g.old (reached result g.new) }
 {
-    let a = boundary(
+    boundary(
         options, b, g, frontier, kept, plans, space, left.last, indent,
-    );
-    let Turn::Going = a else {
-        return a;
-    };
-    let start = (g[START] % 4294967296) as u32;
-    let len = (g[LEN] % 4294967296) as u32;
+    )?;
+    let start = g.start;
+    let len = g.len;
     solve_join::push_joined(b, g, kept, pending, left, start, len)
 }
 
@@ -125,7 +109,7 @@ fn push_gap(
 pub fn push_gaps(
     options: RenderOptions,
     b: Bounds,
-    g: &mut [u64],
+    g: &mut Registers,
     frontier: &mut [u64],
     kept: &mut [[u64; 6]],
     plans: &mut [[u32; 3]],
@@ -134,24 +118,17 @@ pub fn push_gaps(
     start: u32,
     len: u32,
     indent: u32,
-) -> Turn
-    requires { Slots b frontier.old × ((b.kept ≤ length kept.old) × ((b.plans ≤ length plans.old) × ((b.stack ≤ length pending.old) × Held b g.old))) }
-    ensures meets { (P : Prepared) (ts rs es : List Row) → P.space_text ≡ space.0 → Meets b (counts (regs g.old)) (gaps-pushed (rules options) P indent start len (abs (regs g.old) ts rs pending.old es kept.old frontier.old plans.old)) (reached result g.new) (λ s. abs s ts rs pending.new es kept.new frontier.new plans.new) }
-    ensures keeps { Keeps (regs g.old) (reached result g.new) }
+) -> Result<(), Halt>
+    requires { Slots b frontier.old × ((b.kept ≤ length kept.old) × ((b.plans ≤ length plans.old) × ((b.stack ≤ length pending.old) × Sound b g.old))) }
+    ensures meets { (P : Prepared) (ts rs es : List Row) → P.space_text ≡ space.0 → Meets b (counts g.old) (gaps-pushed (rules options) P indent start len (abs g.old ts rs pending.old es kept.old frontier.old plans.old)) (reached result g.new) (λ s. abs s ts rs pending.new es kept.new frontier.new plans.new) }
+    ensures keeps { Keeps g.old (reached result g.new) }
 {
-    let mut at = start as usize;
-    let mut more = len;
-    while 0 < more {
-        let count = g[KEPT] as usize;
-        let left = solve_workspace::candidate_at(kept, count, at);
-        let a = push_gap(
+    let first = start as usize;
+    for at in first..first + len as usize {
+        let left = solve_workspace::candidate_at(kept, g.kept, at);
+        push_gap(
             options, b, g, frontier, kept, plans, pending, space, left, indent,
-        );
-        let Turn::Going = a else {
-            return a;
-        };
-        at = at + 1;
-        more = more - 1;
+        )?;
     }
-    Turn::Going
+    Ok(())
 }

@@ -7,8 +7,7 @@ use Rattle.cost.specs.Cost.{Cost, add}
 use Rattle.cost.specs.Value.{outcome, within, value}
 use Rattle.cost.specs.declared.ConsumerCost.{ConsumerCost}
 use Rattle.cost.specs.declared.Reason.{Reason}
-use Rattle.cost.specs.declared.Costed.{Costed}
-use Rattle.cost.specs.declared.Costed.TheVariants.{Cost as Is, Failed}
+use Rattle.std.specs.Prelude.{Result, Ok, Err}
 use Rattle.layout.specs.Rules.{Rules}
 use Rattle.memo.specs.declared.MemoKey.{MemoKey}
 use Rattle.machine.specs.Events.{Counts, Prog, ret, ◌>>=◌}
@@ -24,19 +23,19 @@ use Rattle.solve_workspace.specs.declared.Reached.{Reached}
 use Rattle.solve_workspace.specs.declared.Reached.TheVariants.{Go, Stop}
 use Rattle.solve_workspace.specs.Meets.{Meets, Leads, counts}
 use Rattle.solve_workspace.specs.Rows.{Row, abs, candidate_of, row_list}
-use Rattle.solve_workspace.specs.Runs.{leads_seq, halt, via}
+use Rattle.solve_workspace.specs.Runs.{leads_refl, leads_seq, halt, via}
 use Rattle.solve_workspace.specs.Costs.{added, add_go, add_stop}
 
 module _ (left right : Candidate) where
   -- the one, pushed
-  pub join_go : {b : Bounds} {k : Counts} {a : Reached} {f : Registers → State} (r : Costed) (c : ConsumerCost) (S : State) → outcome r ≡ within (add left.cost right.cost) → r ≡ Is c
+  pub join_go : {b : Bounds} {k : Counts} {a : Reached} {f : Registers → State} (r : Result ConsumerCost Reason) (c : ConsumerCost) (S : State) → outcome r ≡ within (add left.cost right.cost) → r ≡ Ok c
       → Meets b k (push_pending (scratch (value c) right.column (Made (PlanConcat left.plan.plan right.plan.plan))) S) a f → Meets b k (push_joined left (right ∷ []) S) a f
   unfolding push_joined
   join_go {b = b} {k = k} {a = a} {f = f} r c S e q m =
       via (add_go left.cost right.cost c (λ x. push_pending (scratch x right.column (Made (PlanConcat left.plan.plan right.plan.plan))) S >>= (λ T. ret T)) (added left.cost right.cost r c e q))
       (subst (λ p. Meets b k p a f) (sym (bind_ret (push_pending (scratch (value c) right.column (Made (PlanConcat left.plan.plan right.plan.plan))) S))) m)
 
-  pub join_stop : {b : Bounds} (u : Registers) (r : Costed) (w : Reason) (S : State) (f : Registers → State) → outcome r ≡ within (add left.cost right.cost) → r ≡ Failed w
+  pub join_stop : {b : Bounds} (u : Registers) (r : Result ConsumerCost Reason) (w : Reason) (S : State) (f : Registers → State) → outcome r ≡ within (add left.cost right.cost) → r ≡ Err w
       → Meets b (counts u) (push_joined left (right ∷ []) S) (Stop (Domain w) 0 u) f
   unfolding push_joined
   join_stop u r w S f e q = add_stop u left.cost right.cost r w (λ x. push_pending (scratch x right.column (Made (PlanConcat left.plan.plan right.plan.plan))) S >>= (λ T. ret T)) f e q
@@ -55,9 +54,11 @@ module _ (left right : Candidate) where
   joined_go l i n m S e q w x = rw (e, ← q, join_cons (part l (i + 1) m) S) (leads_seq (push_joined left (part l (i + 1) m)) w x)
 
   pub joined_halt : {b : Bounds} {k : Counts} {z : Registers} {a : Reached} {f g : Registers → State} {w : Why} {y : ℕ} (l : List Candidate) (i n m : ℕ) (S : State) → n ≡ suc m → right ≡ get_or l i no_candidate
-      → Meets b k (push_joined left (right ∷ []) S) a f → a ≡ Stop w y z → Meets b k (push_joined left (part l i n) S) (Stop w y z) g
-  joined_halt {b = b} {k = k} {g = g} l i n m S e q w x =
-      subst (λ j. Meets b k (push_joined left (part l i n) S) j g) x (rw (e, ← q, join_cons (part l (i + 1) m) S) (halt (push_joined left (part l (i + 1) m)) w x))
+      → Meets b k (push_joined left (right ∷ []) S) a f → a ≡ Stop w y z → Meets b k (push_joined left (part l i n) S) a g
+  joined_halt l i n m S e q w x = rw (e, ← q, join_cons (part l (i + 1) m) S) (halt (push_joined left (part l (i + 1) m)) w x)
+
+pub joined_from : {b : Bounds} {k : Counts} (left : Candidate) (l : List Candidate) (i n m : ℕ) (S : State) → m ≡ n → Leads b k (push_joined left (part l i n) S) k (push_joined left (part l i m) S)
+joined_from left l i n m S e = rw e leads_refl
 
 pub joined_none : (left : Candidate) (l : List Candidate) (i n : ℕ) (S : State) → n ≡ 0 → push_joined left (part l i n) S ≡ ret S
 unfolding push_joined

@@ -1,10 +1,14 @@
 -- Laws of nodes as they are read.
-use mathlib.Core.Path.{◌≡◌, refl, sym, ap, ◌∙◌, subst}
+use mathlib.Core.Path.{◌≡◌, refl, sym, ap, ◌∙◌}
+use mathlib.Core.Logic.{◌⊎◌, inl, inr}
 use mathlib.Core.Option.{Option, none, some}
+use Rattle.file_tables.specs.Kinds.{number_of}
+use Rattle.file_tables.specs.declared.Kind.{Kind}
+use Rattle.file_tables.specs.declared.Kind.TheVariants.{Break, HardLine, Seq, Fill}
 use mathlib.Core.List.{List, [], ◌∷◌}
-use Prim.Native.Nat.{ℕ, zero, suc, ◌-◌, ◌≤◌, ◌<◌}
+use Prim.Native.Nat.{ℕ, zero, suc}
 use native.Mathlib.Omega.{arith}
-use lib.ListN.{length, get_or}
+use lib.ListN.{get_or}
 use Rattle.layout.specs.Rules.{Rules}
 use Rattle.memo.specs.declared.MemoKey.{MemoKey}
 use Rattle.file_tables.specs.Tables.{RowIs, Tables, width, text_row, node_row}
@@ -12,89 +16,67 @@ use Rattle.machine.specs.Model.{State, ExactChoice}
 use Rattle.machine.specs.Solver.{begin_union, begin_kind, begin_text, checked_text, begin_sequence, begin_group, begin_choice}
 use Rattle.solve_workspace.specs.Reading.{prepared, edge_part, node_of_kind, node_of_row, choice_of_row, choice_of_length}
 use Rattle.solve_node.specs.declared.Leaf.TheVariants.{Empty, Text, Newline}
-use Rattle.solve_node.specs.declared.Single.TheVariants.{Sequence, Alias, Nest, Align, Annotate, Penalty}
+use Rattle.solve_node.specs.declared.Single.TheVariants.{Alias, Nest, Align, Annotate, Penalty}
 use Rattle.solve_node.specs.declared.Inner.TheVariants.{Single as ASingle, Union, Choice}
 use Rattle.solve_node.specs.declared.PreparedNode.{PreparedNode}
 use Rattle.solve_node.specs.declared.PreparedNode.TheVariants.{Leaf as ALeaf, Inner as AnInner}
-use Rattle.solve_node.specs.declared.NodeLink.{NodeLink}
-use Rattle.solve_node.specs.declared.NodeLink.TheVariants.{Node as Linked, Nothing}
+use Rattle.std.specs.Prelude.{Some, None}
 use Rattle.file_tables.specs.declared.NodeId.{NodeId}
-use Rattle.solve_node.specs.Begun.{begun, ChildIs, ChildCase, Begins, first_of, link_of}
+use Rattle.solve_node.specs.Begun.{NodeLink, begun, Begins, first_of, link_of}
 
 module _ (R : Rules) (t : Tables) (n : ℕ) where
-  pub empty_begins : (es : List ℕ) (k a b : ℕ) → k ≡ 0 → Begins R t n (node_of_kind es k a b) (ALeaf Empty)
+  pub empty_begins : (es : List ℕ) (a b : ℕ) → Begins R t n (node_of_kind es 0 a b) (ALeaf Empty)
   unfolding begin_kind
-  empty_begins es k a b e = rw e (record { same = λ q S h. refl })
+  empty_begins es a b = record { same = λ q S h. refl }
 
-  pub text_begins : (es : List ℕ) (k a b w : ℕ) → k ≡ 1 → w ≡ width (text_row t a) → Begins R t n (node_of_kind es k a b) (ALeaf (Text (record { 0 = a }) w))
+  pub text_begins : (es : List ℕ) (a b w : ℕ) → w ≡ width (text_row t a) → Begins R t n (node_of_kind es 1 a b) (ALeaf (Text (record { 0 = a }) w))
   unfolding begin_kind begin_text checked_text
-  text_begins es k a b w e f = rw (e, f) (record { same = λ q S h. refl })
+  text_begins es a b w f = rw f (record { same = λ q S h. refl })
 
-  pub newline_begins : (es : List ℕ) (k a b : ℕ) → k < 4 → (k ≡ 0 → ⊥) → (k ≡ 1 → ⊥) → Begins R t n (node_of_kind es k a b) (ALeaf Newline)
+  pub newline_begins : (es : List ℕ) (a b : ℕ) (k : Kind) → (k ≡ Break) ⊎ (k ≡ HardLine) → Begins R t n (node_of_kind es (number_of k) a b) (ALeaf Newline)
   unfolding begin_kind
-  newline_begins es zero a b h x y = absurd (x refl)
-  newline_begins es (suc zero) a b h x y = absurd (y refl)
-  newline_begins es (suc (suc zero)) a b h x y = record { same = λ q S h. refl }
-  newline_begins es (suc (suc (suc zero))) a b h x y = record { same = λ q S h. refl }
-  newline_begins es (suc (suc (suc (suc k)))) a b h x y = absurd (omega arith)
+  newline_begins es a b k (inl e) = rw e (record { same = λ q S h. refl })
+  newline_begins es a b k (inr e) = rw e (record { same = λ q S h. refl })
 
   sequence_begins : (l : List ℕ) (q : MemoKey) (S : State) → begin_sequence R (prepared t) l q S ≡ begun R (prepared t) t.choices (first_of l) q S
   unfolding begin_sequence
   sequence_begins [] q S = refl
   sequence_begins (k ∷ ks) q S = refl
 
-  pub seq_begins : (es : List ℕ) (k a b : ℕ) (r : PreparedNode) → k ≡ 4 → r ≡ first_of (edge_part es a b) → Begins R t n (node_of_kind es k a b) r
+  pub seq_begins : (es : List ℕ) (a b : ℕ) (k : Kind) (r : PreparedNode) → (k ≡ Seq) ⊎ (k ≡ Fill) → r ≡ first_of (edge_part es a b) → Begins R t n (node_of_kind es (number_of k) a b) r
   unfolding begin_kind
-  seq_begins es k a b r e f = rw (e, f) (record { same = λ q S h. sequence_begins (edge_part es a b) q S })
+  seq_begins es a b k r (inl e) f = rw (e, f) (record { same = λ q S h. sequence_begins (edge_part es a b) q S })
+  seq_begins es a b k r (inr e) f = rw (e, f) (record { same = λ q S h. sequence_begins (edge_part es a b) q S })
 
-  pub fill_begins : (es : List ℕ) (k a b : ℕ) (r : PreparedNode) → k ≡ 6 → r ≡ first_of (edge_part es a b) → Begins R t n (node_of_kind es k a b) r
+  pub nest_begins : (es : List ℕ) (a b : ℕ) → Begins R t n (node_of_kind es 7 a b) (AnInner (ASingle (Nest a (record { 0 = b }))))
   unfolding begin_kind
-  fill_begins es k a b r e f = rw (e, f) (record { same = λ q S h. sequence_begins (edge_part es a b) q S })
+  nest_begins es a b = record { same = λ q S h. refl }
 
-  pub nest_begins : (es : List ℕ) (k a b : ℕ) → k ≡ 7 → Begins R t n (node_of_kind es k a b) (AnInner (ASingle (Nest a (record { 0 = b }))))
+  pub align_begins : (es : List ℕ) (a b : ℕ) → Begins R t n (node_of_kind es 8 a b) (AnInner (ASingle (Align (record { 0 = a }))))
   unfolding begin_kind
-  nest_begins es k a b e = rw e (record { same = λ q S h. refl })
+  align_begins es a b = record { same = λ q S h. refl }
 
-  pub align_begins : (es : List ℕ) (k a b : ℕ) → k ≡ 8 → Begins R t n (node_of_kind es k a b) (AnInner (ASingle (Align (record { 0 = a }))))
+  pub annotate_begins : (es : List ℕ) (a b : ℕ) → Begins R t n (node_of_kind es 10 a b) (AnInner (ASingle (Annotate (record { 0 = a }) (record { 0 = b }))))
   unfolding begin_kind
-  align_begins es k a b e = rw e (record { same = λ q S h. refl })
+  annotate_begins es a b = record { same = λ q S h. refl }
 
-  pub annotate_begins : (es : List ℕ) (k a b : ℕ) → k ≡ 10 → Begins R t n (node_of_kind es k a b) (AnInner (ASingle (Annotate (record { 0 = a }) (record { 0 = b }))))
+  pub penalty_begins : (es : List ℕ) (a b : ℕ) → Begins R t n (node_of_kind es 11 a b) (AnInner (ASingle (Penalty a (record { 0 = b }))))
   unfolding begin_kind
-  annotate_begins es k a b e = rw e (record { same = λ q S h. refl })
+  penalty_begins es a b = record { same = λ q S h. refl }
 
-  penalty_same : (a b : ℕ) → Begins R t n (node_of_kind [] 11 a b) (AnInner (ASingle (Penalty a (record { 0 = b }))))
-  unfolding begin_kind
-  penalty_same a b = record { same = λ q S h. refl }
+  group_case : (x : Option ℕ) (r : NodeLink) → r ≡ link_of x → (f : NodeId) → r ≡ Some f → x ≡ some f.0
+  group_case none r e f g = absurd (let z : None ≡ Some f = (sym e ∙ g) in let w : ◌≡◌ {A = ℕ} 0 1 = cc in omega arith)
+  group_case (some m) r e f g = let z : Some (record { 0 = m }) ≡ Some f = (sym e ∙ g) in let w : record { 0 = m } ≡ f = cc in ap (λ (y : NodeId). some y.0) w
 
-  pub penalty_begins : (es : List ℕ) (k a b : ℕ) → 4 ≤ k → (k ≡ 4 → ⊥) → (k ≡ 5 → ⊥) → (k ≡ 6 → ⊥) → (k ≡ 7 → ⊥) → (k ≡ 8 → ⊥) → (k ≡ 9 → ⊥) → (k ≡ 10 → ⊥)
-      → Begins R t n (node_of_kind es k a b) (AnInner (ASingle (Penalty a (record { 0 = b }))))
-  penalty_begins es zero a b h c d e f g i j = absurd (omega arith)
-  penalty_begins es (suc zero) a b h c d e f g i j = absurd (omega arith)
-  penalty_begins es (suc (suc zero)) a b h c d e f g i j = absurd (omega arith)
-  penalty_begins es (suc (suc (suc zero))) a b h c d e f g i j = absurd (omega arith)
-  penalty_begins es (suc (suc (suc (suc zero)))) a b h c d e f g i j = absurd (c refl)
-  penalty_begins es (suc (suc (suc (suc (suc zero))))) a b h c d e f g i j = absurd (d refl)
-  penalty_begins es (suc (suc (suc (suc (suc (suc zero)))))) a b h c d e f g i j = absurd (e refl)
-  penalty_begins es (suc (suc (suc (suc (suc (suc (suc zero))))))) a b h c d e f g i j = absurd (f refl)
-  penalty_begins es (suc (suc (suc (suc (suc (suc (suc (suc zero)))))))) a b h c d e f g i j = absurd (g refl)
-  penalty_begins es (suc (suc (suc (suc (suc (suc (suc (suc (suc zero))))))))) a b h c d e f g i j = absurd (i refl)
-  penalty_begins es (suc (suc (suc (suc (suc (suc (suc (suc (suc (suc zero)))))))))) a b h c d e f g i j = absurd (j refl)
-  penalty_begins es (suc (suc (suc (suc (suc (suc (suc (suc (suc (suc (suc k))))))))))) a b h c d e f g i j = penalty_same a b
-
-  group_case : (x : Option ℕ) (r : NodeLink) → r ≡ link_of x → (f : NodeId) → r ≡ Linked f → x ≡ some f.0
-  group_case none r e f g = absurd (let z : Nothing ≡ Linked f = (sym e ∙ g) in let w : ◌≡◌ {A = ℕ} 0 1 = cc in omega arith)
-  group_case (some m) r e f g = let z : Linked (record { 0 = m }) ≡ Linked f = (sym e ∙ g) in let w : record { 0 = m } ≡ f = cc in ap (λ (y : NodeId). some y.0) w
-
-  group_nothing : (x : Option ℕ) (r : NodeLink) → r ≡ link_of x → r ≡ Nothing → x ≡ none
+  group_nothing : (x : Option ℕ) (r : NodeLink) → r ≡ link_of x → r ≡ None → x ≡ none
   group_nothing none r e g = refl
-  group_nothing (some m) r e g = absurd (let z : Linked (record { 0 = m }) ≡ Nothing = (sym e ∙ g) in let w : ◌≡◌ {A = ℕ} 0 1 = cc in omega arith)
+  group_nothing (some m) r e g = absurd (let z : Some (record { 0 = m }) ≡ None = (sym e ∙ g) in let w : ◌≡◌ {A = ℕ} 0 1 = cc in omega arith)
 
-  pub group_flat : (es : List ℕ) (a b : ℕ) (r : NodeLink) (f : NodeId) → r ≡ link_of ((prepared t).table.flat a) → r ≡ Linked f → Begins R t n (node_of_kind es 5 a b) (AnInner (Union f (record { 0 = a })))
+  pub group_flat : (es : List ℕ) (a b : ℕ) (r : NodeLink) (f : NodeId) → r ≡ link_of ((prepared t).table.flat a) → r ≡ Some f → Begins R t n (node_of_kind es 5 a b) (AnInner (Union f (record { 0 = a })))
   unfolding begin_kind begin_group
   group_flat es a b r f e g = let x = group_case ((prepared t).table.flat a) r e f g in record { same = λ q S h. rw x }
 
-  pub group_alone : (es : List ℕ) (a b : ℕ) (r : NodeLink) → r ≡ link_of ((prepared t).table.flat a) → r ≡ Nothing → Begins R t n (node_of_kind es 5 a b) (AnInner (ASingle (Alias (record { 0 = a }))))
+  pub group_alone : (es : List ℕ) (a b : ℕ) (r : NodeLink) → r ≡ link_of ((prepared t).table.flat a) → r ≡ None → Begins R t n (node_of_kind es 5 a b) (AnInner (ASingle (Alias (record { 0 = a }))))
   unfolding begin_kind begin_group
   group_alone es a b r e g = let x = group_nothing ((prepared t).table.flat a) r e g in record { same = λ q S h. rw x }
 
@@ -123,20 +105,14 @@ module _ (R : Rules) (t : Tables) (n : ℕ) where
   choice_listed r h e es a b =
       record { same = λ q S x. choice_some ((prepared t).choices q.node) _ _ (rw (x, ← h.is 5, ← h.is 6, ← h.is 7) (list_of t.choices (get_or r 6 0) (get_or r 5 0) (get_or r 7 0) e)) refl a b q S }
 
-pub first_some : (l : List ℕ) (r : NodeLink) (f : NodeId) → ChildIs l 0 r → r ≡ Linked f → AnInner (ASingle (Sequence f)) ≡ first_of l
-first_some l r f h e = go l (subst (λ x. ChildCase l 0 x) e h.by)
-  where
-    go : (m : List ℕ) → (0 < length m) × (get_or m 0 0 ≡ f.0) → AnInner (ASingle (Sequence f)) ≡ first_of m
-    go [] p = absurd (omega (arith, p.0))
-    go (k ∷ ks) p = ap (λ (x : ℕ). AnInner (ASingle (Sequence (record { 0 = x })))) (sym p.1)
-
-pub first_none : (l : List ℕ) (r : NodeLink) → ChildIs l 0 r → r ≡ Nothing → ALeaf Empty ≡ first_of l
-first_none l r h e = go l (subst (λ x. ChildCase l 0 x) e h.by)
-  where
-    go : (m : List ℕ) → length m ≤ 0 → ALeaf Empty ≡ first_of m
-    go [] p = refl
-    go (k ∷ ks) p = absurd (omega (arith, p))
-
-pub row_node : (es r row : List ℕ) → RowIs r row → node_of_row es row ≡ node_of_kind es (get_or r 0 0) (get_or r 1 0) (get_or r 2 0)
+-- a row by the kind that its number names
+pub row_node : (es r row : List ℕ) (k : ℕ) → RowIs r row → ((es : List ℕ) (a b : ℕ) → node_of_kind es (get_or r 0 0) a b ≡ node_of_kind es k a b)
+    → node_of_row es row ≡ node_of_kind es k (get_or r 1 0) (get_or r 2 0)
 unfolding node_of_row
-row_node es r row h = rw (h.is 0, h.is 1, h.is 2)
+row_node es r row k h e = rw (← h.is 0, ← h.is 1, ← h.is 2) (e es (get_or r 1 0) (get_or r 2 0))
+
+pub row_begins : {R : Rules} {t : Tables} {n : ℕ} {x : PreparedNode} (es r row : List ℕ) (k : ℕ) → RowIs r row → ((es : List ℕ) (a b : ℕ) → node_of_kind es (get_or r 0 0) a b ≡ node_of_kind es k a b)
+    → Begins R t n (node_of_kind es k (get_or r 1 0) (get_or r 2 0)) x → Begins R t n (node_of_row es row) x
+row_begins es r row k h e b = rw (row_node es r row k h e) b
+
+-- a number past the kinds reads as the last

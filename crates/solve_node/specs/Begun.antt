@@ -1,5 +1,6 @@
 -- What the first step of a node is, by the node as the code has read it.
-use Rattle.std.specs.Prelude.{◌≡◌, Bool, true, false, List, [], ◌∷◌, ℕ, ◌+◌, ◌-◌, ◌<◌, ◌≤◌, min, length, get_or}
+use Rattle.std.specs.Prelude.{◌≡◌, Bool, true, false, List, [], ◌∷◌, ℕ, ◌+◌, ◌-◌, ◌<◌, ◌≤◌, min, length, get_or, Some, None, Result, Ok, Err}
+use Rattle.std.specs.Prelude.{Option as Optional}
 use Rattle.std.proofs.Math.Option.{Option, none, some}
 use Rattle.cost.specs.Charge.{text_cost}
 use Rattle.cost.specs.declared.Reason.TheVariants.{Column}
@@ -7,7 +8,7 @@ use Rattle.layout.specs.Rules.{Rules}
 use Rattle.layout.specs.Table.{Node}
 use Rattle.memo.specs.declared.MemoKey.{MemoKey}
 use Rattle.file_tables.specs.Tables.{Tables}
-use Rattle.machine.specs.Events.{Counts, Prog, ret, emit, ◌>>=◌, ◌>>◌, Within}
+use Rattle.machine.specs.Events.{Counts, Prog, ret, emit, ◌>>◌, Within}
 use Rattle.memo.specs.declared.CandidateRange.{CandidateRange}
 use Rattle.frontier.specs.Candidates.{carried}
 use Rattle.machine.specs.Model.{got, Prepared, ExactChoice, State, Scratch, scratch, Made, PlanText, memo_key, CompleteAlias, CompleteAnnotate, CompletePenalty, ContinueSequence}
@@ -27,21 +28,31 @@ use Rattle.solve_node.specs.declared.Inner.{Inner}
 use Rattle.solve_node.specs.declared.Inner.TheVariants.{Single as ASingle, Union, Choice}
 use Rattle.solve_node.specs.declared.PreparedNode.{PreparedNode}
 use Rattle.solve_node.specs.declared.PreparedNode.TheVariants.{Leaf as ALeaf, Inner as AnInner}
-use Rattle.solve_node.specs.declared.FirstChild.{FirstChild}
-use Rattle.solve_node.specs.declared.FirstChild.TheVariants.{Push, Failed}
-use Rattle.solve_node.specs.declared.LeafCandidate.{LeafCandidate}
-use Rattle.solve_node.specs.declared.LeafCandidate.TheVariants.{Candidate as ACandidate, Failed as NoPlace}
-use Rattle.solve_node.specs.declared.NodeLink.{NodeLink}
-use Rattle.solve_node.specs.declared.NodeLink.TheVariants.{Node as Linked, Nothing}
+use Rattle.cost.specs.declared.Reason.{Reason}
+use Rattle.file_tables.specs.declared.NodeId.{NodeId}
+use Rattle.frontier.specs.declared.ScratchCandidate.{ScratchCandidate}
+use Rattle.solve_workspace.specs.declared.ExactTask.{ExactTask}
+
+-- a node, or none
+abbrev pub NodeLink : Type 0
+NodeLink = Optional NodeId
+
+-- the task that completes a node, and the child that is evaluated first; or what has no place
+abbrev pub FirstChild : Type 0
+FirstChild = Result (ExactTask × MemoKey) Reason
+
+-- the one candidate of a leaf; or what has no place
+abbrev pub LeafCandidate : Type 0
+LeafCandidate = Result ScratchCandidate Reason
 
 abbrev pub link_of : Option ℕ → NodeLink
-link_of none = Nothing
-link_of (some n) = Linked (record { 0 = n })
+link_of none = None
+link_of (some n) = Some (record { 0 = n })
 
 -- element i of a list of nodes, or none past its end
 abbrev pub ChildCase : List ℕ → ℕ → NodeLink → Type 0
-ChildCase l i (Linked n) = (i < length l) × (get_or l i 0 ≡ n.0)
-ChildCase l i Nothing = length l ≤ i
+ChildCase l i (Some n) = (i < length l) × (get_or l i 0 ≡ n.0)
+ChildCase l i None = length l ≤ i
 
 pub record ChildIs (l : List ℕ) (i : ℕ) (r : NodeLink) : Type 0 where
   pub by : ChildCase l i r
@@ -56,8 +67,11 @@ first_of [] = ALeaf Empty
 first_of (k ∷ ks) = AnInner (ASingle (Sequence (record { 0 = k })))
 
 -- a Choice's list
+abbrev pub listed : List ℕ → ℕ → Option ExactChoice
+listed alternatives skipped = some (record { alternatives = alternatives; skipped = skipped })
+
 abbrev pub listing : List ℕ → ℕ → ℕ → ℕ → Option ExactChoice
-listing cs start len skipped = some (record { alternatives = edge_part cs start len; skipped = skipped })
+listing cs start len skipped = listed (edge_part cs start len) skipped
 
 module _ (R : Rules) (P : Prepared) where
   abbrev pub leaf_begun : Leaf → MemoKey → State → Prog State
@@ -89,24 +103,24 @@ module _ (R : Rules) (P : Prepared) where
 
 -- what the code has found to push for a node with one child first, or why it stops
 abbrev pub StartedCase : Rules → Single → MemoKey → FirstChild → Type 0
-StartedCase R n q (Push t k) = (P : Prepared) (b : Bounds) (j : Counts) (S : State) → Leads b j (single_begun R P n q S) j (push_child R P (meant t) k S)
-StartedCase R n q (Failed y) = (P : Prepared) (b : Bounds) (s : Registers) (S : State) (f : Registers → State) → Meets b (counts s) (single_begun R P n q S) (Stop (Domain y) 0 s) f
+StartedCase R n q (Ok (t, k)) = (P : Prepared) (b : Bounds) (j : Counts) (S : State) → Leads b j (single_begun R P n q S) j (push_child R P (meant t) k S)
+StartedCase R n q (Err y) = (P : Prepared) (b : Bounds) (s : Registers) (S : State) (f : Registers → State) → Meets b (counts s) (single_begun R P n q S) (Stop (Domain y) 0 s) f
 
 pub record Started (R : Rules) (n : Single) (q : MemoKey) (r : FirstChild) : Type 0 where
   pub by : StartedCase R n q r
 
 -- the candidate of a leaf, or why it stops
 abbrev pub LeafedCase : Rules → Leaf → MemoKey → LeafCandidate → Type 0
-LeafedCase R l q (ACandidate c) = (P : Prepared) (b : Bounds) (j : Counts) (S : State) → Leads b j (leaf_begun R P l q S) j (complete_singleton R P q (survivor (carried c)) S)
-LeafedCase R l q (NoPlace y) = (P : Prepared) (b : Bounds) (s : Registers) (S : State) (f : Registers → State) → Meets b (counts s) (leaf_begun R P l q S) (Stop (Domain y) 0 s) f
+LeafedCase R l q (Ok c) = (P : Prepared) (b : Bounds) (j : Counts) (S : State) → Leads b j (leaf_begun R P l q S) j (complete_singleton R P q (survivor (carried c)) S)
+LeafedCase R l q (Err y) = (P : Prepared) (b : Bounds) (s : Registers) (S : State) (f : Registers → State) → Meets b (counts s) (leaf_begun R P l q S) (Stop (Domain y) 0 s) f
 
 pub record Leafed (R : Rules) (l : Leaf) (q : MemoKey) (r : LeafCandidate) : Type 0 where
   pub by : LeafedCase R l q r
 
 -- a leaf's candidate, or none where it has no place
 abbrev pub leaf_scratch : LeafCandidate → Option Scratch
-leaf_scratch (ACandidate c) = some (survivor (carried c))
-leaf_scratch (NoPlace y) = none
+leaf_scratch (Ok c) = some (survivor (carried c))
+leaf_scratch (Err y) = none
 
 -- r: the node is a Fill
 pub record Filling (n : Node) (r : Bool) : Type 0 where

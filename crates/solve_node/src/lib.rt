@@ -8,20 +8,21 @@ ghost use Rattle.layout.specs.Rules.{Rules, policy};
 ghost use Rattle.machine.specs.Model.{Prepared};
 ghost use Rattle.machine.specs.Solver.{begin_union, begin_choice, push_alternatives, newline};
 ghost use Rattle.file_tables.specs.Tables.{flat, width};
-ghost use Rattle.solve_workspace.specs.Meets.{Meets, counts};
+ghost use Rattle.file_tables.specs.Kinds.{number_of};
+ghost use Rattle.solve_workspace.specs.Meets.{Meets, counts, Sound};
 ghost use Rattle.solve_workspace.specs.Frames.{Keeps};
-ghost use Rattle.solve_workspace.specs.Lent.{regs, Held, reached};
+ghost use Rattle.solve_workspace.specs.Turns.{reached};
 ghost use Rattle.solve_workspace.specs.Rows.{Row, abs};
 ghost use Rattle.solve_workspace.specs.Reading.{tables, rules, node_of_kind, node_of_row, edge_part};
 ghost use Rattle.machine.specs.Model.{children};
-ghost use Rattle.solve_node.specs.Begun.{Leafed, leaf_scratch, Filling, Begins, first_of, link_of, ChildIs, part_length, single_begun, inner_begun, Started, skipping, listing};
+ghost use Rattle.solve_node.specs.Begun.{Leafed, leaf_scratch, Filling, Begins, first_of, link_of, ChildIs, single_begun, inner_begun, Started, skipping, listed};
 
-use cost::{ConsumerCost, Costed, Reason};
-use file_tables::{AnnotationId, NodeId, TextId, node_row, text_word};
+use cost::{ConsumerCost, Reason};
+use file_tables::{AnnotationId, Kind, NodeId, TextId, node_row, text_word};
 use frontier::ScratchCandidate;
 use memo::MemoKey;
-use plan::PendingPlan;
-use solve_workspace::{Bounds, ExactTask, RESULTS, RenderOptions, Turn, Why};
+use plan::{PendingPlan, PlanNode};
+use solve_workspace::{Bounds, ExactTask, Halt, Registers, RenderOptions};
 
 // Nodes that become a frontier of one candidate.
 #[derive(Clone, Copy)]
@@ -79,13 +80,6 @@ pub enum PreparedNode {
     Inner(Inner),
 }
 
-// A node, or none.
-#[derive(Clone, Copy)]
-pub enum NodeLink {
-    Node(NodeId),
-    Nothing,
-}
-
 // ---- reads
 
 fn text_width(texts: &[[u32; 3]], text: TextId) -> u32
@@ -94,76 +88,55 @@ fn text_width(texts: &[[u32; 3]], text: TextId) -> u32
     text_word(texts, text.0 as usize, 0)
 }
 
-// Child `index` of a range of edges.
-fn child_at(edges: &[u32], start: u32, len: u32, index: u32) -> NodeLink
-    ensures { ChildIs (edge_part edges.now start len) index result }
+// A range of edges or choices, as much of it as there is.
+fn part(words: &[u32], start: u32, len: u32) -> &[u32]
+    ensures { result.now ≡ edge_part words.now start len }
 {
-    if len <= index {
-        return NodeLink::Nothing;
-    }
-    let at = start as usize + index as usize;
-    if edges.len() <= at {
-        return NodeLink::Nothing;
-    }
-    let node = edges[at];
-    NodeLink::Node(NodeId(node))
+    let rest = &words[(start as usize).min(words.len())..];
+    &rest[..(len as usize).min(rest.len())]
 }
 
-// How many of a range of choice edges there are.
-fn choice_count(choices: &[u32], start: u32, len: u32) -> usize
-    ensures { result ≡ part_length (length choices.now) start len }
+// Child `index`, if there are so many.
+fn child_at(children: &[u32], index: u32) -> Option<NodeId>
+    ensures { ChildIs children.now index result }
 {
-    let total = choices.len();
-    let from = start as usize;
-    let wanted = len as usize;
-    if total <= from {
-        return 0;
+    let at = index as usize;
+    if at < children.len() {
+        Some(NodeId(children[at]))
+    } else {
+        None
     }
-    if total - from < wanted {
-        return total - from;
-    }
-    wanted
 }
 
-fn flat_node(nodes: &[[u32; 8]], node: NodeId) -> NodeLink
+fn flat_node(nodes: &[[u32; 8]], node: NodeId) -> Option<NodeId>
     ensures { result ≡ link_of (flat (get_or nodes.now node.0 [])) }
 {
     let row = node_row(nodes, node);
-    let flat = row[4];
     if row[3] == 1 {
-        return NodeLink::Node(NodeId(flat));
+        Some(NodeId(row[4]))
+    } else {
+        None
     }
-    NodeLink::Nothing
 }
 
 // ---- a node's row
 
-fn leaf_node(texts: &[[u32; 3]], kind: u32, first: u32) -> PreparedNode
-    requires { kind < 4 }
-    ensures { (R : Rules) (ns : List Row) (es cs bs : List ℕ) (annotations root space second n : ℕ) → Begins R (tables ns es cs texts.now bs annotations root space) n (node_of_kind es kind first second) result }
+// The kind that a number names. The definitions read a number past the kinds as the last.
+fn kind_of(number: u32) -> Kind
+    ensures { (es : List ℕ) (a b : ℕ) → node_of_kind es number a b ≡ node_of_kind es (number_of result) a b }
 {
-    if kind == 0 {
-        return PreparedNode::Leaf(Leaf::Empty);
+    match Kind::try_from(number) {
+        Ok(kind) => kind,
+        Err(_) => Kind::Penalty,
     }
-    if kind == 1 {
-        let text = TextId(first);
-        let width = text_width(texts, text);
-        return PreparedNode::Leaf(Leaf::Text {
-            text: text,
-            width: width,
-        });
-    }
-    PreparedNode::Leaf(Leaf::Newline)
 }
 
-fn sequence_node(edges: &[u32], start: u32, len: u32) -> PreparedNode
-    ensures { result ≡ first_of (edge_part edges.now start len) }
+fn sequence_node(children: &[u32]) -> PreparedNode
+    ensures { result ≡ first_of children.now }
 {
-    match child_at(edges, start, len, 0) {
-        NodeLink::Node(first) => PreparedNode::Inner(Inner::Single(Single::Sequence {
-            first: first,
-        })),
-        NodeLink::Nothing => PreparedNode::Leaf(Leaf::Empty),
+    match child_at(children, 0) {
+        Some(first) => PreparedNode::Inner(Inner::Single(Single::Sequence { first })),
+        None => PreparedNode::Leaf(Leaf::Empty),
     }
 }
 
@@ -171,45 +144,11 @@ fn group_node(nodes: &[[u32; 8]], child: NodeId) -> PreparedNode
     ensures { (R : Rules) (es cs : List ℕ) (ts : List Row) (bs : List ℕ) (annotations root space n : ℕ) → Begins R (tables nodes.now es cs ts bs annotations root space) n (node_of_kind es 5 child.0 0) result }
 {
     match flat_node(nodes, child) {
-        NodeLink::Node(flat) => PreparedNode::Inner(Inner::Union {
+        Some(flat) => PreparedNode::Inner(Inner::Union {
             preferred: flat,
             alternative: child,
         }),
-        NodeLink::Nothing => PreparedNode::Inner(Inner::Single(Single::Alias { child: child })),
-    }
-}
-
-fn inner_node(
-    nodes: &[[u32; 8]],
-    edges: &[u32],
-    node: NodeId,
-    kind: u32,
-    first: u32,
-    second: u32,
-) -> PreparedNode
-    requires { (4 ≤ kind) × ((kind ≡ get_or (get_or nodes.now node.0 []) 0 0) × ((first ≡ get_or (get_or nodes.now node.0 []) 1 0) × (second ≡ get_or (get_or nodes.now node.0 []) 2 0))) }
-    ensures { (R : Rules) (cs : List ℕ) (ts : List Row) (bs : List ℕ) (annotations root space : ℕ) → Begins R (tables nodes.now edges.now cs ts bs annotations root space) node.0 (node_of_kind edges.now kind first second) result }
-{
-    match kind {
-        4 => sequence_node(edges, first, second),
-        5 => group_node(nodes, NodeId(first)),
-        6 => sequence_node(edges, first, second),
-        7 => PreparedNode::Inner(Inner::Single(Single::Nest {
-            indent: first,
-            child: NodeId(second),
-        })),
-        8 => PreparedNode::Inner(Inner::Single(Single::Align {
-            child: NodeId(first),
-        })),
-        9 => choice_node(nodes, node, NodeId(first), NodeId(second)),
-        10 => PreparedNode::Inner(Inner::Single(Single::Annotate {
-            annotation: AnnotationId(first),
-            child: NodeId(second),
-        })),
-        _ => PreparedNode::Inner(Inner::Single(Single::Penalty {
-            amount: first,
-            child: NodeId(second),
-        })),
+        None => PreparedNode::Inner(Inner::Single(Single::Alias { child })),
     }
 }
 
@@ -222,20 +161,18 @@ fn choice_node(
     ensures { (R : Rules) (es cs : List ℕ) (ts : List Row) (bs : List ℕ) (annotations root space : ℕ) → Begins R (tables nodes.now es cs ts bs annotations root space) node.0 (node_of_kind es 9 preferred.0 alternative.0) result }
 {
     let row = node_row(nodes, node);
-    let start = row[5];
-    let len = row[6];
-    let skipped = row[7];
-    if len == 0 {
-        return PreparedNode::Inner(Inner::Union {
-            preferred: preferred,
-            alternative: alternative,
-        });
+    if row[6] == 0 {
+        PreparedNode::Inner(Inner::Union {
+            preferred,
+            alternative,
+        })
+    } else {
+        PreparedNode::Inner(Inner::Choice {
+            start: row[5],
+            len: row[6],
+            skipped: row[7],
+        })
     }
-    PreparedNode::Inner(Inner::Choice {
-        start: start,
-        len: len,
-        skipped: skipped,
-    })
 }
 
 // A node of the tables.
@@ -248,13 +185,35 @@ pub fn prepared_node(
     ensures { (R : Rules) (cs bs : List ℕ) (annotations root space : ℕ) → Begins R (tables nodes.now edges.now cs texts.now bs annotations root space) node.0 (node_of_row edges.now (get_or nodes.now node.0 [])) result }
 {
     let row = node_row(nodes, node);
-    let kind = row[0];
     let first = row[1];
     let second = row[2];
-    if kind < 4 {
-        return leaf_node(texts, kind, first);
+    match kind_of(row[0]) {
+        Kind::Empty => PreparedNode::Leaf(Leaf::Empty),
+        Kind::Text => {
+            let text = TextId(first);
+            let width = text_width(texts, text);
+            PreparedNode::Leaf(Leaf::Text { text, width })
+        }
+        Kind::Break | Kind::HardLine => PreparedNode::Leaf(Leaf::Newline),
+        Kind::Seq | Kind::Fill => sequence_node(part(edges, first, second)),
+        Kind::Group => group_node(nodes, NodeId(first)),
+        Kind::Nest => PreparedNode::Inner(Inner::Single(Single::Nest {
+            indent: first,
+            child: NodeId(second),
+        })),
+        Kind::Align => PreparedNode::Inner(Inner::Single(Single::Align {
+            child: NodeId(first),
+        })),
+        Kind::Choice => choice_node(nodes, node, NodeId(first), NodeId(second)),
+        Kind::Annotate => PreparedNode::Inner(Inner::Single(Single::Annotate {
+            annotation: AnnotationId(first),
+            child: NodeId(second),
+        })),
+        Kind::Penalty => PreparedNode::Inner(Inner::Single(Single::Penalty {
+            amount: first,
+            child: NodeId(second),
+        })),
     }
-    inner_node(nodes, edges, node, kind, first, second)
 }
 
 // ---- nodes with children
@@ -266,245 +225,183 @@ fn effective_indent(options: RenderOptions, indent: u32) -> u32
     if options.policy == 0 {
         return indent;
     }
-    if options.width == 0 {
-        return 0;
-    }
-    let limit = options.width - 1;
-    if indent < limit {
-        return indent;
-    }
-    limit
+    indent.min(options.width.saturating_sub(1))
 }
 
 // The task that completes a node, and the child that is evaluated first; or what has no place.
-#[derive(Clone, Copy)]
-pub enum FirstChild {
-    Push(ExactTask, MemoKey),
-    Failed(Reason),
-}
-
-fn first_child(options: RenderOptions, key: MemoKey, node: Single) -> FirstChild
+fn first_child(
+    options: RenderOptions,
+    key: MemoKey,
+    node: Single,
+) -> Result<(ExactTask, MemoKey), Reason>
     ensures { Started (rules options) node key result }
 {
     match node {
         Single::Sequence { first } => {
-            let child = MemoKey {
-                node: first.0,
-                column: key.column,
-                indent: key.indent,
+            let task = ExactTask::ContinueSequence {
+                key,
+                child_index: 1,
             };
-            FirstChild::Push(
-                ExactTask::ContinueSequence {
-                    key: key,
-                    child_index: 1,
+            Ok((
+                task,
+                MemoKey {
+                    node: first.0,
+                    ..key
                 },
-                child,
-            )
+            ))
         }
-        Single::Alias { child } => {
-            let inner = MemoKey {
+        Single::Alias { child } => Ok((
+            ExactTask::CompleteAlias(key),
+            MemoKey {
                 node: child.0,
-                column: key.column,
-                indent: key.indent,
-            };
-            FirstChild::Push(ExactTask::CompleteAlias(key), inner)
-        }
+                ..key
+            },
+        )),
         Single::Nest { indent, child } => {
-            if 4294967295 - key.indent < indent {
-                return FirstChild::Failed(Reason::Indent);
-            }
-            let nested = effective_indent(options, key.indent + indent);
+            let nested = key.indent.checked_add(indent).ok_or(Reason::Indent)?;
             let inner = MemoKey {
                 node: child.0,
-                column: key.column,
-                indent: nested,
+                indent: effective_indent(options, nested),
+                ..key
             };
-            FirstChild::Push(ExactTask::CompleteAlias(key), inner)
+            Ok((ExactTask::CompleteAlias(key), inner))
         }
         Single::Align { child } => {
-            let aligned = effective_indent(options, key.column);
             let inner = MemoKey {
                 node: child.0,
-                column: key.column,
-                indent: aligned,
+                indent: effective_indent(options, key.column),
+                ..key
             };
-            FirstChild::Push(ExactTask::CompleteAlias(key), inner)
+            Ok((ExactTask::CompleteAlias(key), inner))
         }
-        Single::Annotate { annotation, child } => {
-            let inner = MemoKey {
+        Single::Annotate { annotation, child } => Ok((
+            ExactTask::CompleteAnnotate { key, annotation },
+            MemoKey {
                 node: child.0,
-                column: key.column,
-                indent: key.indent,
-            };
-            FirstChild::Push(
-                ExactTask::CompleteAnnotate {
-                    key: key,
-                    annotation: annotation,
-                },
-                inner,
-            )
-        }
-        Single::Penalty { amount, child } => {
-            let inner = MemoKey {
+                ..key
+            },
+        )),
+        Single::Penalty { amount, child } => Ok((
+            ExactTask::CompletePenalty { key, amount },
+            MemoKey {
                 node: child.0,
-                column: key.column,
-                indent: key.indent,
-            };
-            FirstChild::Push(
-                ExactTask::CompletePenalty {
-                    key: key,
-                    amount: amount,
-                },
-                inner,
-            )
-        }
+                ..key
+            },
+        )),
     }
 }
 
 fn begin_single(
     options: RenderOptions,
     b: Bounds,
-    g: &mut [u64],
+    g: &mut Registers,
     tasks: &mut [[u32; 9]],
     key: MemoKey,
     node: Single,
-) -> Turn
-    requires { (b.stack ≤ length tasks.old) × Held b g.old }
-    ensures meets { (P : Prepared) (rs ps es ks : List Row) (fs : List ℕ) (ns : List Row) → Meets b (counts (regs g.old)) (single_begun (rules options) P node key (abs (regs g.old) tasks.old rs ps es ks fs ns)) (reached result g.new) (λ s. abs s tasks.new rs ps es ks fs ns) }
-    ensures keeps { Keeps (regs g.old) (reached result g.new) }
+) -> Result<(), Halt>
+    requires { (b.stack ≤ length tasks.old) × Sound b g.old }
+    ensures meets { (P : Prepared) (rs ps es ks : List Row) (fs : List ℕ) (ns : List Row) → Meets b (counts g.old) (single_begun (rules options) P node key (abs g.old tasks.old rs ps es ks fs ns)) (reached result g.new) (λ s. abs s tasks.new rs ps es ks fs ns) }
+    ensures keeps { Keeps g.old (reached result g.new) }
 {
-    match first_child(options, key, node) {
-        FirstChild::Failed(reason) => Turn::Halted(Why::Domain(reason), 0),
-        FirstChild::Push(task, child) => solve_workspace::push_child(b, g, tasks, task, child),
-    }
+    let (task, child) = first_child(options, key, node)?;
+    solve_workspace::push_child(b, g, tasks, task, child)
 }
 
 // Preferred is to be evaluated first, so it is pushed last.
 fn begin_union(
     b: Bounds,
-    g: &mut [u64],
+    g: &mut Registers,
     tasks: &mut [[u32; 9]],
     key: MemoKey,
     preferred: NodeId,
     alternative: NodeId,
-) -> Turn
-    requires { (b.stack ≤ length tasks.old) × Held b g.old }
-    ensures meets { (R : Rules) (P : Prepared) (rs ps es ks : List Row) (fs : List ℕ) (ns : List Row) → Meets b (counts (regs g.old)) (begin_union R P preferred.0 alternative.0 key (abs (regs g.old) tasks.old rs ps es ks fs ns)) (reached result g.new) (λ s. abs s tasks.new rs ps es ks fs ns) }
-    ensures keeps { Keeps (regs g.old) (reached result g.new) }
+) -> Result<(), Halt>
+    requires { (b.stack ≤ length tasks.old) × Sound b g.old }
+    ensures meets { (R : Rules) (P : Prepared) (rs ps es ks : List Row) (fs : List ℕ) (ns : List Row) → Meets b (counts g.old) (begin_union R P preferred.0 alternative.0 key (abs g.old tasks.old rs ps es ks fs ns)) (reached result g.new) (λ s. abs s tasks.new rs ps es ks fs ns) }
+    ensures keeps { Keeps g.old (reached result g.new) }
 {
     let other = MemoKey {
         node: alternative.0,
-        column: key.column,
-        indent: key.indent,
+        ..key
     };
-    let a = solve_workspace::push_child(b, g, tasks, ExactTask::CompleteUnion(key), other);
-    let Turn::Going = a else {
-        return a;
-    };
+    solve_workspace::push_child(b, g, tasks, ExactTask::CompleteUnion(key), other)?;
     let first = MemoKey {
         node: preferred.0,
-        column: key.column,
-        indent: key.indent,
+        ..key
     };
     solve_workspace::push_exact_task(b, g, tasks, ExactTask::Eval(first))
 }
 
 // The Choices that the list skips count as work, as if they had been evaluated.
-fn skip_choices(b: Bounds, g: &mut [u64], skipped: u32) -> Turn
-    requires { Held b g.old }
-    ensures meets { (R : Rules) (P : Prepared) (ts rs ps es ks : List Row) (fs : List ℕ) (ns : List Row) → Meets b (counts (regs g.old)) (skipping R P skipped (abs (regs g.old) ts rs ps es ks fs ns)) (reached result g.new) (λ s. abs s ts rs ps es ks fs ns) }
-    ensures keeps { Keeps (regs g.old) (reached result g.new) }
+fn skip_choices(b: Bounds, g: &mut Registers, skipped: u32) -> Result<(), Halt>
+    requires { Sound b g.old }
+    ensures meets { (R : Rules) (P : Prepared) (ts rs ps es ks : List Row) (fs : List ℕ) (ns : List Row) → Meets b (counts g.old) (skipping R P skipped (abs g.old ts rs ps es ks fs ns)) (reached result g.new) (λ s. abs s ts rs ps es ks fs ns) }
+    ensures keeps { Keeps g.old (reached result g.new) }
 {
-    let mut left = skipped;
-    while 0 < left {
-        let a = solve_workspace::work_miss(b, g);
-        let Turn::Going = a else {
-            return a;
-        };
-        left -= 1;
+    for _ in 0..skipped {
+        solve_workspace::work_miss(b, g)?;
     }
-    Turn::Going
+    Ok(())
 }
 
 // The last alternative is pushed first.
 fn push_alternatives(
     b: Bounds,
-    g: &mut [u64],
+    g: &mut Registers,
     tasks: &mut [[u32; 9]],
-    choices: &[u32],
+    alternatives: &[u32],
     key: MemoKey,
-    start: u32,
-    len: u32,
-) -> Turn
-    requires { (b.stack ≤ length tasks.old) × Held b g.old }
-    ensures meets { (R : Rules) (P : Prepared) (rs ps es ks : List Row) (fs : List ℕ) (ns : List Row) → Meets b (counts (regs g.old)) (push_alternatives R P (edge_part choices.now start len) key (abs (regs g.old) tasks.old rs ps es ks fs ns)) (reached result g.new) (λ s. abs s tasks.new rs ps es ks fs ns) }
-    ensures keeps { Keeps (regs g.old) (reached result g.new) }
+) -> Result<(), Halt>
+    requires { (b.stack ≤ length tasks.old) × Sound b g.old }
+    ensures meets { (R : Rules) (P : Prepared) (rs ps es ks : List Row) (fs : List ℕ) (ns : List Row) → Meets b (counts g.old) (push_alternatives R P alternatives.now key (abs g.old tasks.old rs ps es ks fs ns)) (reached result g.new) (λ s. abs s tasks.new rs ps es ks fs ns) }
+    ensures keeps { Keeps g.old (reached result g.new) }
 {
-    let from = start as usize;
-    let mut left = choice_count(choices, start, len);
-    while 0 < left {
-        left -= 1;
-        let node = choices[from + left];
-        let child = MemoKey {
-            node: node,
-            column: key.column,
-            indent: key.indent,
-        };
-        let a = solve_workspace::push_exact_task(b, g, tasks, ExactTask::Eval(child));
-        let Turn::Going = a else {
-            return a;
-        };
+    for node in alternatives.iter().rev() {
+        let child = MemoKey { node: *node, ..key };
+        solve_workspace::push_exact_task(b, g, tasks, ExactTask::Eval(child))?;
     }
-    Turn::Going
+    Ok(())
 }
 
 fn begin_choice(
     b: Bounds,
-    g: &mut [u64],
+    g: &mut Registers,
     tasks: &mut [[u32; 9]],
-    choices: &[u32],
+    alternatives: &[u32],
     key: MemoKey,
-    start: u32,
-    len: u32,
     skipped: u32,
-) -> Turn
-    requires { (b.stack ≤ length tasks.old) × Held b g.old }
-    ensures meets { (R : Rules) (P : Prepared) (rs ps es ks : List Row) (fs : List ℕ) (ns : List Row) → Meets b (counts (regs g.old)) (begin_choice R P (listing choices.now start len skipped) 0 0 key (abs (regs g.old) tasks.old rs ps es ks fs ns)) (reached result g.new) (λ s. abs s tasks.new rs ps es ks fs ns) }
-    ensures keeps { Keeps (regs g.old) (reached result g.new) }
+) -> Result<(), Halt>
+    requires { (b.stack ≤ length tasks.old) × Sound b g.old }
+    ensures meets { (R : Rules) (P : Prepared) (rs ps es ks : List Row) (fs : List ℕ) (ns : List Row) → Meets b (counts g.old) (begin_choice R P (listed alternatives.now skipped) 0 0 key (abs g.old tasks.old rs ps es ks fs ns)) (reached result g.new) (λ s. abs s tasks.new rs ps es ks fs ns) }
+    ensures keeps { Keeps g.old (reached result g.new) }
 {
-    let a = skip_choices(b, g, skipped);
-    let Turn::Going = a else {
-        return a;
-    };
-    let below = g[RESULTS] as u32;
-    let c = solve_workspace::push_exact_task(
+    skip_choices(b, g, skipped)?;
+    let below = g.results as u32;
+    solve_workspace::push_exact_task(
         b,
         g,
         tasks,
         ExactTask::CompleteChoiceSet {
-            key: key,
+            key,
             result_start: below,
         },
-    );
-    let Turn::Going = c else {
-        return c;
-    };
-    push_alternatives(b, g, tasks, choices, key, start, len)
+    )?;
+    push_alternatives(b, g, tasks, alternatives, key)
 }
 
 // A node with children: its tasks are pushed.
 pub fn begin_inner(
     options: RenderOptions,
     b: Bounds,
-    g: &mut [u64],
+    g: &mut Registers,
     tasks: &mut [[u32; 9]],
     choices: &[u32],
     key: MemoKey,
     node: Inner,
-) -> Turn
-    requires { (b.stack ≤ length tasks.old) × Held b g.old }
-    ensures meets { (P : Prepared) (rs ps es ks : List Row) (fs : List ℕ) (ns : List Row) → Meets b (counts (regs g.old)) (inner_begun (rules options) P choices.now node key (abs (regs g.old) tasks.old rs ps es ks fs ns)) (reached result g.new) (λ s. abs s tasks.new rs ps es ks fs ns) }
-    ensures keeps { Keeps (regs g.old) (reached result g.new) }
+) -> Result<(), Halt>
+    requires { (b.stack ≤ length tasks.old) × Sound b g.old }
+    ensures meets { (P : Prepared) (rs ps es ks : List Row) (fs : List ℕ) (ns : List Row) → Meets b (counts g.old) (inner_begun (rules options) P choices.now node key (abs g.old tasks.old rs ps es ks fs ns)) (reached result g.new) (λ s. abs s tasks.new rs ps es ks fs ns) }
+    ensures keeps { Keeps g.old (reached result g.new) }
 {
     match node {
         Inner::Single(single) => begin_single(options, b, g, tasks, key, single),
@@ -516,59 +413,54 @@ pub fn begin_inner(
             start,
             len,
             skipped,
-        } => begin_choice(b, g, tasks, choices, key, start, len, skipped),
+        } => begin_choice(b, g, tasks, part(choices, start, len), key, skipped),
     }
 }
 
 // ---- leaves
 
-// The one candidate of a leaf; or what has no place.
-#[derive(Clone, Copy)]
-pub enum LeafCandidate {
-    Candidate(ScratchCandidate),
-    Failed(Reason),
-}
-
-fn text_candidate(options: RenderOptions, column: u32, text: TextId, width: u32) -> LeafCandidate
+fn text_candidate(
+    options: RenderOptions,
+    column: u32,
+    text: TextId,
+    width: u32,
+) -> Result<ScratchCandidate, Reason>
     ensures { (indent node : ℕ) → Leafed (rules options) (Leaf.Text text width) (record { node = node; column = column; indent = indent }) result }
 {
     let model = solve_workspace::cost_model(options);
-    match ConsumerCost::text(model, column, width) {
-        Costed::Failed(reason) => LeafCandidate::Failed(reason),
-        Costed::Cost(cost) => {
-            let last = column + width;
-            LeafCandidate::Candidate(solve_workspace::scratch_candidate(
-                cost,
-                last,
-                PendingPlan::Text(text),
-            ))
-        }
-    }
+    let cost = ConsumerCost::text(model, column, width)?;
+    Ok(solve_workspace::scratch_candidate(
+        cost,
+        column + width,
+        PendingPlan::New(PlanNode::Text(text)),
+    ))
 }
 
 // A newline to an indent; a Fill's gaps have it too. It always has its place.
-pub fn newline_candidate(options: RenderOptions, indent: u32) -> LeafCandidate
+pub fn newline_candidate(options: RenderOptions, indent: u32) -> Result<ScratchCandidate, Reason>
     ensures { (P : Prepared) → leaf_scratch result ≡ some (newline (rules options) P indent) }
 {
     let model = solve_workspace::cost_model(options);
-    match ConsumerCost::newline(model, indent) {
-        Costed::Failed(reason) => LeafCandidate::Failed(reason),
-        Costed::Cost(cost) => LeafCandidate::Candidate(solve_workspace::scratch_candidate(
-            cost,
-            indent,
-            PendingPlan::Newline { indent: indent },
-        )),
-    }
+    let cost = ConsumerCost::newline(model, indent)?;
+    Ok(solve_workspace::scratch_candidate(
+        cost,
+        indent,
+        PendingPlan::New(PlanNode::Newline { indent }),
+    ))
 }
 
-pub fn leaf_candidate(options: RenderOptions, key: MemoKey, leaf: Leaf) -> LeafCandidate
+pub fn leaf_candidate(
+    options: RenderOptions,
+    key: MemoKey,
+    leaf: Leaf,
+) -> Result<ScratchCandidate, Reason>
     ensures { Leafed (rules options) leaf key result }
 {
     match leaf {
-        Leaf::Empty => LeafCandidate::Candidate(solve_workspace::scratch_candidate(
+        Leaf::Empty => Ok(solve_workspace::scratch_candidate(
             ConsumerCost::ZERO,
             key.column,
-            PendingPlan::Empty,
+            PendingPlan::New(PlanNode::Empty),
         )),
         Leaf::Text { text, width } => text_candidate(options, key.column, text, width),
         Leaf::Newline => newline_candidate(options, key.indent),
@@ -578,17 +470,13 @@ pub fn leaf_candidate(options: RenderOptions, key: MemoKey, leaf: Leaf) -> LeafC
 // ---- sequences
 
 // Child `index` of a Seq or a Fill; other nodes have none.
-pub fn sequence_child(nodes: &[[u32; 8]], edges: &[u32], node: NodeId, index: u32) -> NodeLink
+pub fn sequence_child(nodes: &[[u32; 8]], edges: &[u32], node: NodeId, index: u32) -> Option<NodeId>
     ensures { ChildIs (children (node_of_row edges.now (get_or nodes.now node.0 []))) index result }
 {
     let row = node_row(nodes, node);
-    let start = row[1];
-    let len = row[2];
-    let kind = row[0];
-    match kind {
-        4 => child_at(edges, start, len, index),
-        6 => child_at(edges, start, len, index),
-        _ => NodeLink::Nothing,
+    match kind_of(row[0]) {
+        Kind::Seq | Kind::Fill => child_at(part(edges, row[1], row[2]), index),
+        _ => None,
     }
 }
 
@@ -596,6 +484,5 @@ pub fn sequence_child(nodes: &[[u32; 8]], edges: &[u32], node: NodeId, index: u3
 pub fn is_fill(nodes: &[[u32; 8]], node: NodeId) -> bool
     ensures { (es : List ℕ) → Filling (node_of_row es (get_or nodes.now node.0 [])) result }
 {
-    let row = node_row(nodes, node);
-    row[0] == 6
+    matches!(kind_of(node_row(nodes, node)[0]), Kind::Fill)
 }

@@ -19,10 +19,9 @@ use Rattle.solve_workspace.specs.Meets.{counts, Sound, Meets, Leads}
 use Rattle.solve_workspace.specs.Rows.{Row, abs, candidate_of, scratch_of, range_of, row_list, pile}
 use Rattle.solve_workspace.specs.Stacks.{row_list_length, pile_length}
 use Rattle.solve_workspace.specs.Frames.{Kept, Keeps}
-use Rattle.solve_workspace.specs.declared.Turn.{Turn}
-use Rattle.solve_workspace.specs.declared.Turn.TheVariants.{Going}
-use Rattle.solve_workspace.specs.Lent.{regs, Held, reached}
-use Rattle.solve_workspace.specs.Stores.{went, held_on}
+use Rattle.std.specs.Prelude.{Ok}
+use Rattle.solve_workspace.specs.Turns.{Turn, reached}
+use Rattle.solve_workspace.specs.TurnLaws.{went, held_on}
 use Rattle.solve_workspace.specs.Runs.{seq, halt, kept_by, kept_trans, leads_seq, ended}
 use Rattle.solve_builder.specs.Building.{Building, BuildingAt}
 use Rattle.solve_builder.specs.Opening.{building_by}
@@ -30,21 +29,18 @@ use Rattle.solve_ranges.specs.Wrapping.{pending_from, results_from}
 
 -- ---- what stays
 
--- the words o at the loop's start, and g now
-pub record Underway (b : Bounds) (o g : List ℕ) (fs₀ fs : List ℕ) : Type 0 where
-  pub long : length g ≡ length o
-  pub len : length fs ≡ length fs₀
-  pub building : Building b (regs g) fs
-  pub held : Held b g
-  pub kept : Kept (regs o) (regs g)
+-- the registers o at the loop's start, and g now
+pub record Underway (b : Bounds) (o g : Registers) (fs : List ℕ) : Type 0 where
+  pub building : Building b g fs
+  pub sound : Sound b g
+  pub kept : Kept o g
 
-pub underway : {b : Bounds} {g fs : List ℕ} → Building b (regs g) fs → Held b g → Underway b g g fs fs
-underway h k = record { long = refl; len = refl; building = h; held = k; kept = record { memo = refl; results = refl; pending = omega arith } }
+pub underway : {b : Bounds} {g : Registers} {fs : List ℕ} → Building b g fs → Sound b g → Underway b g g fs
+underway h k = record { building = h; sound = k; kept = record { memo = refl; results = refl; pending = omega arith } }
 
-pub still_underway : {A : Type 0} {b : Bounds} {o g h fs₀ fs fs' : List ℕ} {k : Counts} {p : Prog A} {t : Turn} {f : Registers → A} → Underway b o g fs₀ fs → Meets b k p (reached t h) f → BuildingAt b fs' (reached t h)
-    → Keeps (regs g) (reached t h) → t ≡ Going → length h ≡ length g → length fs' ≡ length fs → Underway b o h fs₀ fs'
-still_underway {h = h} u m x r q e l =
-    record { long = e ∙ u.long; len = l ∙ u.len; building = building_by x (went h q); held = held_on u.held e m q; kept = kept_trans u.kept (kept_by r (went h q)) }
+pub still_underway : {A : Type 0} {b : Bounds} {o g h : Registers} {fs fs' : List ℕ} {k : Counts} {p : Prog A} {t : Turn} {x : Unit} {f : Registers → A} → Underway b o g fs → Meets b k p (reached t h) f → BuildingAt b fs' (reached t h)
+    → Keeps g (reached t h) → t ≡ Ok x → Underway b o h fs'
+still_underway {h = h} u m x r q = record { building = building_by x (went h q); sound = held_on m q; kept = kept_trans u.kept (kept_by r (went h q)) }
 
 -- ---- what is left
 

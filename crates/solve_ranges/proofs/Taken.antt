@@ -1,9 +1,9 @@
 -- Laws of what is pending no more, once its frontier is built.
-use mathlib.Core.Path.{◌≡◌, refl, sym, ap, ◌∙◌, subst}
+use mathlib.Core.Path.{◌≡◌, refl, ap, ◌∙◌, subst}
 use mathlib.Core.List.{List, [], ◌∷◌, map}
 use Prim.Native.Nat.{ℕ, zero, suc, ◌≤◌}
 use native.Mathlib.Omega.{arith}
-use lib.ListN.{length, take, set, length-set}
+use lib.ListN.{take}
 use lib.Seq.{take-take}
 use Rattle.machine.specs.Events.{Prog}
 use Rattle.machine.specs.Model.{State, Scratch, with_pending}
@@ -14,8 +14,6 @@ use Rattle.solve_workspace.specs.Meets.{counts, Sound, Meets}
 use Rattle.solve_workspace.specs.Rows.{Row, abs, scratch_of, row_list}
 use Rattle.solve_workspace.specs.Stacks.{with_pending_to}
 use Rattle.solve_workspace.specs.Frames.{Kept}
-use Rattle.solve_workspace.specs.Lent.{WORDS, PENDING, regs, Held}
-use Rattle.solve_workspace.specs.Stores.{reads, stores, now_regs}
 use Rattle.solve_builder.specs.Building.{Building}
 
 take_map : (n : ℕ) (l : List Row) → take n (map scratch_of l) ≡ map scratch_of (take n l)
@@ -32,11 +30,11 @@ unfolding abs
 taken_is s n ts rs ps es ks fs ns h = rw (taken_list n s.pending ps h)
 
 -- what is done with fewer pending is done with the machine's
-taken_from : {A : Type 0} {b : Bounds} {a : Reached} {f : Registers → A} (g : State → Prog A) (s : Registers) (n : ℕ) (ts rs ps es ks : List Row) (fs : List ℕ) (ns : List Row) → n ≤ s.pending
+pub taken_from : {A : Type 0} {b : Bounds} {a : Reached} {f : Registers → A} (g : State → Prog A) (s : Registers) (n : ℕ) (ts rs ps es ks : List Row) (fs : List ℕ) (ns : List Row) → n ≤ s.pending
     → Meets b (counts s) (g (abs (with_pending_to s n) ts rs ps es ks fs ns)) a f → Meets b (counts s) (g (with_pending (take n (abs s ts rs ps es ks fs ns).pending) (abs s ts rs ps es ks fs ns))) a f
 taken_from {b = b} {a = a} {f = f} g s n ts rs ps es ks fs ns h m = subst (λ (z : State). Meets b (counts s) (g z) a f) (taken_is s n ts rs ps es ks fs ns h) m
 
-taken_sound : {b : Bounds} (s : Registers) (n : ℕ) → n ≤ s.pending → Sound b s → Sound b (with_pending_to s n)
+pub taken_sound : {b : Bounds} (s : Registers) (n : ℕ) → n ≤ s.pending → Sound b s → Sound b (with_pending_to s n)
 taken_sound s n h k =
     record {
       hits = k.hits;
@@ -53,36 +51,12 @@ taken_sound s n h k =
       plans = k.plans;
     }
 
-taken_building : {b : Bounds} {fs : List ℕ} (s : Registers) (n : ℕ) → Building b s fs → Building b (with_pending_to s n) fs
+pub taken_building : {b : Bounds} {fs : List ℕ} (s : Registers) (n : ℕ) → Building b s fs → Building b (with_pending_to s n) fs
 taken_building s n h = record { frontier = h.frontier }
 
 -- memo and results are as they were
 pub taken_kept : {o s : Registers} (n : ℕ) → Kept o s → n ≤ o.pending → Kept (with_pending_to o n) s
 taken_kept n h l = record { memo = h.memo; results = h.results; pending = omega (arith, h.pending) }
 
-taken_both : {o s : Registers} (n : ℕ) → Kept o s → Kept (with_pending_to o n) (with_pending_to s n)
+pub taken_both : {o s : Registers} (n : ℕ) → Kept o s → Kept (with_pending_to o n) (with_pending_to s n)
 taken_both n h = record { memo = h.memo; results = h.results; pending = omega arith }
-
--- ---- over the words: the word of what is pending is stored
-
-pending_stored : (g : List ℕ) (n : ℕ) → WORDS ≤ length g → regs (set g PENDING n) ≡ with_pending_to (regs g) n
-pending_stored g n l = now_regs (stores PENDING n (omega arith) (reads g l))
-
-pub stored_held : {b : Bounds} (g : List ℕ) (n : ℕ) → n ≤ (regs g).pending → Held b g → Held b (set g PENDING n)
-stored_held {b = b} g n h k =
-    record {
-      room = omega (arith, length-set g PENDING n, k.room);
-      sound = subst (λ (s : Registers). Sound b s) (sym (pending_stored g n k.room)) (taken_sound (regs g) n h k.sound);
-    }
-
-pub stored_building : {b : Bounds} {fs : List ℕ} (g : List ℕ) (n : ℕ) → WORDS ≤ length g → Building b (regs g) fs → Building b (regs (set g PENDING n)) fs
-stored_building {b = b} {fs = fs} g n l h = subst (λ (s : Registers). Building b s fs) (sym (pending_stored g n l)) (taken_building (regs g) n h)
-
-pub stored_from : {A : Type 0} {b : Bounds} {a : Reached} {f : Registers → A} (p : State → Prog A) (g : List ℕ) (n : ℕ) (ts rs ps es ks : List Row) (fs : List ℕ) (ns : List Row) → WORDS ≤ length g → n ≤ (regs g).pending
-    → Meets b (counts (regs (set g PENDING n))) (p (abs (regs (set g PENDING n)) ts rs ps es ks fs ns)) a f
-    → Meets b (counts (regs g)) (p (with_pending (take n (abs (regs g) ts rs ps es ks fs ns).pending) (abs (regs g) ts rs ps es ks fs ns))) a f
-stored_from {b = b} {a = a} {f = f} p g n ts rs ps es ks fs ns l h m =
-    taken_from p (regs g) n ts rs ps es ks fs ns h (subst (λ (s : Registers). Meets b (counts s) (p (abs s ts rs ps es ks fs ns)) a f) (pending_stored g n l) m)
-
-pub stored_both : {o : Registers} (g : List ℕ) (n : ℕ) → WORDS ≤ length g → Kept o (regs g) → Kept (with_pending_to o n) (regs (set g PENDING n))
-stored_both {o = o} g n l h = subst (λ (s : Registers). Kept (with_pending_to o n) s) (sym (pending_stored g n l)) (taken_both n h)

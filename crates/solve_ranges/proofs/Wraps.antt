@@ -7,8 +7,7 @@ use Rattle.cost.specs.Cost.{Cost, add}
 use Rattle.cost.specs.Value.{value, within, outcome}
 use Rattle.cost.specs.declared.ConsumerCost.{ConsumerCost}
 use Rattle.cost.specs.declared.Reason.{Reason}
-use Rattle.cost.specs.declared.Costed.{Costed}
-use Rattle.cost.specs.declared.Costed.TheVariants.{Cost as Is, Failed}
+use Rattle.std.specs.Prelude.{Result, Ok, Err}
 use Rattle.machine.specs.Events.{Counts, ◌>>=◌}
 use Rattle.machine.specs.Model.{State, PlanNode, PendingPlan, Made, Candidate, Scratch, scratch, no_candidate, part, range}
 use Rattle.machine.specs.Solver.{present, checked_add, present_wrapped}
@@ -26,15 +25,15 @@ use Rattle.solve_ranges.specs.Wrapping.{wrap_one, wrapped_range}
 
 module _ (b : Bounds) (W : ℕ → PlanNode) (A : Cost) where
   -- the cost has its place, and the candidate is presented; or not
-  pub wrap_go : {k : Counts} {a : Reached} {f : Registers → State} (c : Candidate) (S : State) (x : ConsumerCost) (y : Cost) (r : Costed) (t : ConsumerCost) (p : Scratch) (v : PendingPlan) → value x ≡ A → c.cost ≡ y
-      → outcome r ≡ within (add y (value x)) → r ≡ Is t → p ≡ scratch (value t) c.column v → v ≡ Made (W c.plan.plan) → Meets b k (present p S) a f → Meets b k (wrap_one W A c S) a f
+  pub wrap_go : {k : Counts} {a : Reached} {f : Registers → State} (c : Candidate) (S : State) (x : ConsumerCost) (y : Cost) (r : Result ConsumerCost Reason) (t : ConsumerCost) (p : Scratch) (v : PendingPlan) → value x ≡ A → c.cost ≡ y
+      → outcome r ≡ within (add y (value x)) → r ≡ Ok t → p ≡ scratch (value t) c.column v → v ≡ Made (W c.plan.plan) → Meets b k (present p S) a f → Meets b k (wrap_one W A c S) a f
   unfolding wrap_one
   wrap_go c S x y r t p v e i o q j w m =
       let u : p ≡ scratch (value t) c.column (Made (W c.plan.plan)) = j ∙ ap (λ (z : PendingPlan). scratch (value t) c.column z) w in
       rw (← e, i) (via (add_go y (value x) t (λ cost. present (scratch cost c.column (Made (W c.plan.plan))) S) (added y (value x) r t o q)) (rw (← u) m))
 
-  pub wrap_stop : (u : Registers) (c : Candidate) (S : State) (x : ConsumerCost) (y : Cost) (r : Costed) (w : Reason) (f : Registers → State) → value x ≡ A → c.cost ≡ y
-      → outcome r ≡ within (add y (value x)) → r ≡ Failed w → Meets b (counts u) (wrap_one W A c S) (Stop (Domain w) 0 u) f
+  pub wrap_stop : (u : Registers) (c : Candidate) (S : State) (x : ConsumerCost) (y : Cost) (r : Result ConsumerCost Reason) (w : Reason) (f : Registers → State) → value x ≡ A → c.cost ≡ y
+      → outcome r ≡ within (add y (value x)) → r ≡ Err w → Meets b (counts u) (wrap_one W A c S) (Stop (Domain w) 0 u) f
   unfolding wrap_one
   wrap_stop u c S x y r w f e i o q = rw (← e, i) (add_stop u y (value x) r w (λ cost. present (scratch cost c.column (Made (W c.plan.plan))) S) f o q)
 

@@ -21,15 +21,13 @@ use Rattle.solve_workspace.specs.Meets.{Meets, counts}
 pub use Rattle.solve_workspace.specs.FrameLaws.{same_stopped, same_trans, kept_same}
 use Rattle.solve_workspace.specs.Rows.{Row, abs, candidate_of, row_list}
 use Rattle.solve_workspace.specs.Runs.{seq, halt}
-use Rattle.solve_node.specs.declared.NodeLink.{NodeLink}
-use Rattle.solve_node.specs.declared.NodeLink.TheVariants.{Node as Linked, Nothing}
-use Rattle.solve_node.specs.Begun.{ChildIs, ChildCase}
+use Rattle.std.specs.Prelude.{Option, Some, None, unwrap_or}
+use Rattle.solve_node.specs.Begun.{ChildIs}
 
-pub child_node : (l : List ℕ) (i : ℕ) (r : NodeLink) (k : NodeId) → ChildIs l i r → r ≡ Linked k → get_or l i 0 ≡ k.0
-child_node l i r k h e = (subst (λ y. ChildCase l i y) e h.by).1
-
-pub child_none : (l : List ℕ) (i : ℕ) (r : NodeLink) → ChildIs l i r → r ≡ Nothing → get_or l i 0 ≡ 0
-child_none l i r h e = get_or-eq_default l 0 (subst (λ y. ChildCase l i y) e h.by)
+-- past the end the answer is 0, as the definition's
+pub child_read : (l : List ℕ) (i : ℕ) (r : Option NodeId) → ChildIs l i r → get_or l i 0 ≡ (unwrap_or r (record { 0 = 0 })).0
+child_read l i (Some k) h = h.by.1
+child_read l i None h = get_or-eq_default l 0 h.by
 
 module _ (R : Rules) (P : Prepared) (q : MemoKey) (x i l o p : ℕ) where
   pub left_on : {b : Bounds} {k : Counts} {a : Reached} {f : Registers → State} (S : State) → o + 1 < l → Meets b k (push_right R P q x (range i l) (o + 1) p S) a f

@@ -1,14 +1,12 @@
 -- Laws of the memo's slices: what an insertion leaves, and what a lookup finds.
-use Rattle.std.specs.Prelude.{◌≡◌, refl, Bool, true, false, List, [], ◌∷◌, ℕ, zero, suc, ◌+◌, ◌≤◌, ◌<◌, ◌^◌, max, length}
+use Rattle.std.specs.Prelude.{◌≡◌, refl, Bool, true, false, List, [], ◌∷◌, ℕ, zero, suc, ◌+◌, ◌≤◌, ◌<◌, ◌^◌, max, length, Some, Result, Ok, Err}
 use Rattle.std.proofs.Common.{sym, ◌∙◌, subst, add-one, arith, le-leb, length-append}
 use Rattle.std.proofs.lemmas.Bool.{lt-leb}
 use Rattle.memo.specs.Entries.{Entry, pick, same, lookup, stored, entry, listed}
 use Rattle.memo.specs.Index.{Entered, Refused, Insertion, InsertionIs}
-use Rattle.memo.specs.declared.MemoInsertion.{MemoInsertion}
-use Rattle.memo.specs.declared.MemoInsertion.TheVariants.{Inserted, Full}
+use Rattle.memo.specs.declared.Full.{Full}
 use Rattle.memo.specs.declared.MemoKey.{MemoKey}
 use Rattle.memo.specs.declared.CandidateRange.{CandidateRange}
-use Rattle.memo.specs.declared.MemoLookup.TheVariants.{Found}
 use Rattle.machine.specs.Model.{State, range}
 use Rattle.machine.specs.Solver.{memo_insert}
 use Rattle.solve_workspace.specs.declared.Bounds.{Bounds}
@@ -42,11 +40,11 @@ stored_narrow [] e h k = one_entry h no_entry
 stored_narrow (x ∷ xs) e h (one_entry p k) = pick_narrow (same x.key e.key) (e ∷ xs) (x ∷ stored xs e) (one_entry h k) (one_entry p (stored_narrow xs e h k))
 
 -- what is found has its place in 32 bits
-pub found_narrow : (l : List Entry) (q : MemoKey) (r : CandidateRange) → AllNarrow l → lookup l q ≡ Found r → (r.start < 2 ^ 32) × (r.len < 2 ^ 32)
+pub found_narrow : (l : List Entry) (q : MemoKey) (r : CandidateRange) → AllNarrow l → lookup l q ≡ Some r → (r.start < 2 ^ 32) × (r.len < 2 ^ 32)
 found_narrow [] q r k e = absurd (let z : ◌≡◌ {A = ℕ} 0 1 = cc in omega arith)
 found_narrow (x ∷ xs) q r (one_entry p k) e = go (same x.key q) e (found_narrow xs q r k)
   where
-    go : (b : Bool) → pick b (Found x.range) (lookup xs q) ≡ Found r → (lookup xs q ≡ Found r → (r.start < 2 ^ 32) × (r.len < 2 ^ 32)) → (r.start < 2 ^ 32) × (r.len < 2 ^ 32)
+    go : (b : Bool) → pick b (Some x.range) (lookup xs q) ≡ Some r → (lookup xs q ≡ Some r → (r.start < 2 ^ 32) × (r.len < 2 ^ 32)) → (r.start < 2 ^ 32) × (r.len < 2 ^ 32)
     go true f g = let y : x.range ≡ r = cc in rw (← y) (p.start, p.len)
     go false f g = g f
 
@@ -76,6 +74,9 @@ with_memo_to s n = record {
   };
   peaks = record { stack = s.peaks.stack; memo = max s.peaks.memo (s.memo + 1); frontier = s.peaks.frontier };
 }
+
+pub sound_memo : {b : Bounds} {s : Registers} (n : ℕ) → Sound b s → n ≤ b.memo → Sound b (with_memo_to s n)
+sound_memo n h l = record { hits = h.hits; misses = h.misses; generated = h.generated; pruned = h.pruned; work = h.work; tasks = h.tasks; results = h.results; pending = h.pending; memo = l; kept = h.kept; plans = h.plans; stack = h.stack }
 
 pub entered_few : {ss : List ℕ} {es : List Row} {n size : ℕ} {ss' : List ℕ} {es' : List Row} {e : Entry} {m : ℕ} → Entered ss es n size ss' es' e m → m ≤ size
 entered_few {es = es} {n = n} {size = size} {es' = es'} {e = e} {m = m} h =
@@ -112,8 +113,8 @@ memory_on (Stop w n z) h k = record { by = tt }
 pub memory_by : {b : Bounds} {ss : List ℕ} {es : List Row} {a : Reached} {s : Registers} → MemoryAt b ss es a → a ≡ Go s → Memory b s.memo ss es
 memory_by {b = b} {ss = ss} {es = es} h q = subst (λ x. MemoryCase b ss es x) q h.by
 
-pub entered_by : {ss : List ℕ} {es : List Row} {n size : ℕ} {ss' : List ℕ} {es' : List Row} {e : Entry} {r : MemoInsertion} {m : ℕ} → Insertion ss es n size ss' es' e r → r ≡ Inserted m → Entered ss es n size ss' es' e m
+pub entered_by : {ss : List ℕ} {es : List Row} {n size : ℕ} {ss' : List ℕ} {es' : List Row} {e : Entry} {r : Result ℕ Full} {m : ℕ} → Insertion ss es n size ss' es' e r → r ≡ Ok m → Entered ss es n size ss' es' e m
 entered_by {ss = ss} {es = es} {n = n} {size = size} {ss' = ss'} {es' = es'} {e = e} h q = subst (λ x. InsertionIs ss es n size ss' es' e x) q h.is
 
-pub refused_by : {ss : List ℕ} {es : List Row} {n size : ℕ} {ss' : List ℕ} {es' : List Row} {e : Entry} {r : MemoInsertion} {m : ℕ} → Insertion ss es n size ss' es' e r → r ≡ Full m → Refused ss es n size ss' es' m
+pub refused_by : {ss : List ℕ} {es : List Row} {n size : ℕ} {ss' : List ℕ} {es' : List Row} {e : Entry} {r : Result ℕ Full} {d : Full} → Insertion ss es n size ss' es' e r → r ≡ Err d → Refused ss es n size ss' es' d.needed
 refused_by {ss = ss} {es = es} {n = n} {size = size} {ss' = ss'} {es' = es'} {e = e} h q = subst (λ x. InsertionIs ss es n size ss' es' e x) q h.is

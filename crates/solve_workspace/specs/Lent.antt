@@ -1,15 +1,11 @@
--- The solver's registers as a list of words, and what a turn has reached with them. A register is read by the name of its word, here and in the code.
+-- The solver's registers as a list of words. The code has them as one record; these names and the laws of Stores say how words would hold them.
 use Rattle.std.specs.Prelude.{ℕ, ◌≤◌, max, List, length, set}
 use Rattle.solve_workspace.specs.declared.Bounds.{Bounds}
 use Rattle.solve_workspace.specs.declared.Registers.{Registers}
-use Rattle.solve_workspace.specs.declared.Reached.{Reached}
-use Rattle.solve_workspace.specs.declared.Reached.TheVariants.{Go, Stop}
-use Rattle.solve_workspace.specs.declared.Turn.{Turn}
-use Rattle.solve_workspace.specs.declared.Turn.TheVariants.{Going, Halted}
 use Rattle.solve_workspace.specs.Meets.{Sound}
 use Rattle.solve_workspace.specs.Rows.{at, low}
 
--- the words, numbered as in the code (src/lib.rt, the same names): how far each store is filled
+-- the words: how far each store is filled
 abbrev pub TASKS : ℕ
 TASKS = 0
 
@@ -128,8 +124,3 @@ lifted g i n = set g i (max (at g i) n)
 pub record Held (b : Bounds) (g : List ℕ) : Type 0 where
   pub room : WORDS ≤ length g
   pub sound : Sound b (regs g)
-
--- what a turn has reached, with the words that stand then
-unfoldable pub reached : Turn → List ℕ → Reached
-reached Going g = Go (regs g)
-reached (Halted w n) g = Stop w n (regs g)

@@ -9,7 +9,7 @@ use Rattle.memo.specs.Entries.{listed}
 use Rattle.plan.specs.declared.PlanNode.{PlanNode as Node}
 use Rattle.plan.specs.declared.PlanNode.TheVariants.{Empty, Text, Newline, Concat, Annotate, Penalty}
 use Rattle.plan.specs.declared.PendingPlan.{PendingPlan as Pended}
-use Rattle.plan.specs.declared.PendingPlan.TheVariants.{Existing as Stands, Empty as NewEmpty, Text as NewText, Newline as NewNewline, Concat as NewConcat, Annotate as NewAnnotate, Penalty as NewPenalty}
+use Rattle.plan.specs.declared.PendingPlan.TheVariants.{Existing as Stands, New}
 use Rattle.plan.specs.Arena.{arena}
 use Rattle.frontier.specs.Candidates.{Pending, survivors}
 use Rattle.machine.specs.Model.{PlanNode, PlanEmpty, PlanText, PlanNewline, PlanConcat, PlanAnnotate, PlanPenalty, PendingPlan, Existing, Made, Candidate, Scratch, scratch, range, memo_key}
@@ -81,12 +81,7 @@ node_of (Penalty n c) = PlanPenalty n c.0
 
 abbrev pub plan_of : Pended → PendingPlan
 plan_of (Stands p) = Existing p.0
-plan_of NewEmpty = Made PlanEmpty
-plan_of (NewText t) = Made (PlanText t.0)
-plan_of (NewNewline i) = Made (PlanNewline i)
-plan_of (NewConcat l r) = Made (PlanConcat l.0 r.0)
-plan_of (NewAnnotate a c) = Made (PlanAnnotate a.0 c.0)
-plan_of (NewPenalty n c) = Made (PlanPenalty n c.0)
+plan_of (New x) = Made (node_of x)
 
 -- a pending plan in words: kind, first, second
 abbrev pub plan_of_kind : ℕ → ℕ → ℕ → PendingPlan

@@ -62,6 +62,9 @@ tasks_pushed s = stacked (s.tasks + 1) (with_tasks_to s (s.tasks + 1))
 abbrev pub with_results_to : Registers → ℕ → Registers
 with_results_to s n = record { tasks = s.tasks; results = n; pending = s.pending; memo = s.memo; kept = s.kept; plans = s.plans; start = s.start; len = s.len; builder = s.builder; stats = s.stats; peaks = s.peaks }
 
+pub sound_results : {b : Bounds} {s : Registers} (n : ℕ) → Sound b s → n ≤ b.stack → Sound b (with_results_to s n)
+sound_results n h l = record { hits = h.hits; misses = h.misses; generated = h.generated; pruned = h.pruned; work = h.work; tasks = h.tasks; results = l; pending = h.pending; memo = h.memo; kept = h.kept; plans = h.plans; stack = h.stack }
+
 abbrev pub results_pushed : Registers → Registers
 results_pushed s = stacked (s.results + 1) (with_results_to s (s.results + 1))
 

@@ -1,31 +1,14 @@
--- Laws of the words: what is left of the registers where words are stored, and what is reached where the code has told which turn.
+-- Laws of the words: what is left of the registers where words are stored.
 use Rattle.std.specs.Prelude.{◌≡◌, refl, Bool, true, false, cond, List, ℕ, ◌≤◌, ◌<◌, max, eqb, length, set}
 use Rattle.std.proofs.Common.{sym, ap, ◌∙◌, arith, length-set, get_or-set_same, get_or-set_other, eqb-true}
 use Rattle.std.proofs.Math.Path.{fun_ext, subst}
 use Rattle.std.proofs.lemmas.Bool.{eqb-false}
-use Rattle.machine.specs.Events.{Counts, Prog}
 use Rattle.solve_workspace.specs.declared.Bounds.{Bounds}
-use Rattle.solve_workspace.specs.declared.Registers.{Registers}
-use Rattle.solve_workspace.specs.declared.Why.{Why}
-use Rattle.solve_workspace.specs.declared.Reached.TheVariants.{Go, Stop}
-use Rattle.solve_workspace.specs.declared.Turn.{Turn}
-use Rattle.solve_workspace.specs.declared.Turn.TheVariants.{Going, Halted}
-use Rattle.solve_workspace.specs.Meets.{Meets}
-use Rattle.solve_workspace.specs.Rows.{Row, at}
-use Rattle.solve_workspace.specs.Frames.{Keeps, SameMemo, MemoryAt}
-use Rattle.solve_workspace.specs.Runs.{ok}
+use Rattle.solve_workspace.specs.Rows.{at}
+use Rattle.solve_workspace.specs.Frames.{Popped}
+use Rattle.solve_workspace.specs.Work.{popped_sound}
 use Rattle.solve_workspace.specs.Stacks.{with_tasks_to}
-use Rattle.solve_workspace.specs.Lent.{TASKS, WORDS, of_words, regs, lifted, Held, reached}
-
--- ---- which turn
-
-pub went : {t : Turn} (g : List ℕ) → t ≡ Going → reached t g ≡ Go (regs g)
-unfolding reached
-went g q = ap (λ (z : Turn). reached z g) q
-
-pub halted : {t : Turn} {w : Why} {n : ℕ} (g : List ℕ) → t ≡ Halted w n → reached t g ≡ Stop w n (regs g)
-unfolding reached
-halted g q = ap (λ (z : Turn). reached z g) q
+use Rattle.solve_workspace.specs.Lent.{TASKS, WORDS, of_words, regs, lifted, Held}
 
 -- ---- stores
 
@@ -62,43 +45,7 @@ now_regs r = ap of_words (fun_ext r.is)
 pub tasks_stored : (g : List ℕ) (n : ℕ) → WORDS ≤ length g → regs (set g TASKS n) ≡ with_tasks_to (regs g) n
 tasks_stored g n l = now_regs (stores TASKS n (omega arith) (reads g l))
 
--- ---- turns over words whose registers are z
+-- ---- words that hold sound registers still do where a result is taken off
 
-module _ {A : Type 0} {b : Bounds} {k : Counts} {p : Prog A} {f : Registers → A} (g : List ℕ) {z : Registers} (e : regs g ≡ z) where
-  pub going_meets : Meets b k p (Go z) f → Meets b k p (reached Going g) f
-  unfolding reached
-  going_meets m = subst (λ (s : Registers). Meets b k p (Go s) f) (sym e) m
-
-  pub halted_meets : {w : Why} {n : ℕ} → Meets b k p (Stop w n z) f → Meets b k p (reached (Halted w n) g) f
-  unfolding reached
-  halted_meets {w = w} {n = n} m = subst (λ (s : Registers). Meets b k p (Stop w n s) f) (sym e) m
-
-pub going_keeps : {o : Registers} (g : List ℕ) {z : Registers} → regs g ≡ z → Keeps o (Go z) → Keeps o (reached Going g)
-unfolding reached
-going_keeps {o = o} g e h = subst (λ (s : Registers). Keeps o (Go s)) (sym e) h
-
-pub going_same : {o : Registers} (g : List ℕ) {z : Registers} → regs g ≡ z → SameMemo o (Go z) → SameMemo o (reached Going g)
-unfolding reached
-going_same {o = o} g e h = subst (λ (s : Registers). SameMemo o (Go s)) (sym e) h
-
-pub going_memory : {b : Bounds} {ss : List ℕ} {es : List Row} (g : List ℕ) {z : Registers} → regs g ≡ z → MemoryAt b ss es (Go z) → MemoryAt b ss es (reached Going g)
-unfolding reached
-going_memory {b = b} {ss = ss} {es = es} g e h = subst (λ (s : Registers). MemoryAt b ss es (Go s)) (sym e) h
-
--- nothing is said of a stop
-pub halted_keeps : (o : Registers) (w : Why) (n : ℕ) (g : List ℕ) → Keeps o (reached (Halted w n) g)
-unfolding reached
-halted_keeps o w n g = record { by = tt }
-
-pub halted_same : (o : Registers) (w : Why) (n : ℕ) (g : List ℕ) → SameMemo o (reached (Halted w n) g)
-unfolding reached
-halted_same o w n g = record { by = tt }
-
-pub halted_memory : (b : Bounds) (ss : List ℕ) (es : List Row) (w : Why) (n : ℕ) (g : List ℕ) → MemoryAt b ss es (reached (Halted w n) g)
-unfolding reached
-halted_memory b ss es w n g = record { by = tt }
-
--- ---- the registers stay held
-
-pub held_on : {A : Type 0} {b : Bounds} {g h : List ℕ} {k : Counts} {p : Prog A} {t : Turn} {f : Registers → A} → Held b g → length h ≡ length g → Meets b k p (reached t h) f → t ≡ Going → Held b h
-held_on {h = h} r e m q = record { room = omega (arith, r.room); sound = ok m (went h q) }
+pub popped_held : {b : Bounds} {g h : List ℕ} → Popped (regs g) (regs h) → length h ≡ length g → Held b g → Held b h
+popped_held p e r = record { room = omega (arith, r.room); sound = popped_sound p r.sound }

@@ -6,7 +6,8 @@ use Rattle.memo.specs.declared.MemoKey.{MemoKey}
 use Rattle.memo.specs.declared.CandidateRange.{CandidateRange}
 use Rattle.plan.specs.declared.PlanRecord.{PlanRecord}
 use Rattle.plan.specs.declared.PendingPlan.{PendingPlan as Pended}
-use Rattle.plan.specs.declared.PendingPlan.TheVariants.{Existing as Stands, Empty as NewEmpty, Text as NewText, Newline as NewNewline, Concat as NewConcat, Annotate as NewAnnotate, Penalty as NewPenalty}
+use Rattle.plan.specs.declared.PendingPlan.TheVariants.{Existing as Stands, New}
+use Rattle.plan.specs.declared.PlanNode.TheVariants.{Empty, Text, Newline, Concat, Annotate, Penalty}
 use Rattle.plan.specs.Records.{record_of}
 use Rattle.machine.specs.Model.{CompleteSequenceRight, PendingPlan, scratch}
 use Rattle.solve_workspace.specs.Rows.{low, task_of_kind, plan_of, plan_of_kind, plan_of_words, scratch_of}
@@ -28,12 +29,12 @@ low_is x h = mod-eq_of_lt h
 
 record_plan : (p : Pended) → plan_of_kind (record_of p).kind (record_of p).first (record_of p).second ≡ plan_of p
 record_plan (Stands p) = refl
-record_plan NewEmpty = refl
-record_plan (NewText t) = refl
-record_plan (NewNewline i) = refl
-record_plan (NewConcat l r) = refl
-record_plan (NewAnnotate a c) = refl
-record_plan (NewPenalty n c) = refl
+record_plan (New Empty) = refl
+record_plan (New (Text t)) = refl
+record_plan (New (Newline i)) = refl
+record_plan (New (Concat l r)) = refl
+record_plan (New (Annotate a c)) = refl
+record_plan (New (Penalty n c)) = refl
 
 -- the words of a pending plan, in numbers of 32 bits
 pub words_plan : (p : Pended) (r : PlanRecord) → r ≡ record_of p → r.kind < 2 ^ 32 → r.first < 2 ^ 32 → r.second < 2 ^ 32 → plan_of_words r.kind r.first r.second ≡ plan_of p

@@ -1,5 +1,5 @@
 -- Laws of the work ticks, and of what a popped result leaves.
-use Rattle.std.specs.Prelude.{◌≡◌, List, ℕ, ◌≤◌, ◌<◌, length}
+use Rattle.std.specs.Prelude.{◌≡◌, List, ℕ, ◌≤◌, ◌<◌}
 use Rattle.std.proofs.Common.{arith, lt-ltb, le-ltb}
 use Rattle.stats.specs.declared.SolveStats.{SolveStats}
 use Rattle.stats.specs.declared.SolveCounter.TheVariants.{WorkItems, MemoHits, MemoMisses}
@@ -13,7 +13,6 @@ use Rattle.solve_workspace.specs.declared.Reached.TheVariants.{Go, Stop}
 use Rattle.solve_workspace.specs.Meets.{counts, ticked, Sound, Meets}
 use Rattle.solve_workspace.specs.Rows.{Row, abs}
 use Rattle.solve_workspace.specs.Frames.{Popped}
-use Rattle.solve_workspace.specs.Lent.{regs, Held}
 
 abbrev pub with_stats : Registers → SolveStats → Registers
 with_stats s t = record { tasks = s.tasks; results = s.results; pending = s.pending; memo = s.memo; kept = s.kept; plans = s.plans; start = s.start; len = s.len; builder = s.builder; stats = t; peaks = s.peaks }
@@ -59,9 +58,6 @@ popped_sound {b = b} {o = o} {s = s} p h =
       plans = omega arith;
       stack = h.stack;
     }
-
-pub popped_held : {b : Bounds} {g h : List ℕ} → Popped (regs g) (regs h) → length h ≡ length g → Held b g → Held b h
-popped_held p e r = record { room = omega (arith, r.room); sound = popped_sound p r.sound }
 
 pub popped_from : {A : Type 0} {b : Bounds} {o s : Registers} {p : Prog A} {a : Reached} {f : Registers → A} → Popped o s → Meets b (counts s) p a f → Meets b (counts o) p a f
 popped_from {b = b} {o = o} {p = p} {a = a} {f = f} q h = rw (← q.stats, ← q.peaks, ← q.kept, ← q.plans, ← q.builder) h

@@ -10,17 +10,17 @@ ghost use Rattle.machine.specs.Solver.{push_exact_task, push_exact_result, pop_e
 ghost use Rattle.machine.specs.Solver.{memo_insert as inserting};
 ghost use Rattle.frontier.specs.Candidates.{carried};
 ghost use Rattle.cost.specs.Value.{value};
-ghost use Rattle.solve_workspace.specs.Meets.{Meets, counts, ticked, reason};
+ghost use Rattle.solve_workspace.specs.Meets.{Meets, Sound, counts, ticked, reason};
 ghost use Rattle.solve_workspace.specs.Rows.{Row, abs, task_of, meant, plan_of, scratch_of, survivor, candidate, candidate_of, row_list};
 ghost use Rattle.solve_workspace.specs.Frames.{Keeps, SameMemo, Popped, Memory, MemoryAt};
-ghost use Rattle.solve_workspace.specs.Lent.{WORDS, regs, lifted, Held, reached};
+ghost use Rattle.solve_workspace.specs.Turns.{halt_past, halt_frontier, halt_memo, halt_plans, reached};
 ghost use Rattle.solve_workspace.specs.Reading.{cost_model};
 
 use cost::{ConsumerCost, PreparedConsumerCostModel, Reason};
 use file_tables::AnnotationId;
 use frontier::{Builder, ScratchCandidate};
-use memo::{CandidateRange, MemoInsertion, MemoKey};
-use plan::{PendingPlan, PlanId};
+use memo::{CandidateRange, MemoKey};
+use plan::{PendingPlan, PlanId, PlanRecord};
 use stats::SolveStats;
 
 // Sizes in the order of 13 to 21, and the two limits (document 01, "Calls").
@@ -82,8 +82,7 @@ pub struct Peaks {
     pub frontier: usize,
 }
 
-// How far each store is filled, the range that was popped or finished last, the frontier that is being built, the counts and the peaks: what contracts say of the words.
-// The code lends the words themselves.
+// How far each store is filled, the range that was popped or finished last, the frontier that is being built, the counts and the peaks.
 #[derive(Clone, Copy)]
 pub struct Registers {
     pub tasks: usize,
@@ -126,11 +125,58 @@ pub fn solver_number(why: Why) -> u32
     }
 }
 
-// The solver goes on; or it stops, with the size that is needed (0 where no size is too small). The registers are the words that were lent.
+// Why the solver stops, and the size that is needed (0 where no size is too small).
 #[derive(Clone, Copy)]
-pub enum Turn {
-    Going,
-    Halted(Why, u64),
+pub struct Halt {
+    pub why: Why,
+    pub needed: u64,
+}
+
+// What has no place in its width stops the solver.
+impl From<Reason> for Halt {
+    ghost from_gives = { λ past halt. halt ≡ halt_past past };
+
+    fn from(past: Reason) -> Halt {
+        Halt {
+            why: Why::Domain(past),
+            needed: 0,
+        }
+    }
+}
+
+// So does a frontier that its size has no room for.
+impl From<frontier::Full> for Halt {
+    ghost from_gives = { λ full halt. halt ≡ halt_frontier full };
+
+    fn from(full: frontier::Full) -> Halt {
+        Halt {
+            why: Why::Frontier,
+            needed: full.needed,
+        }
+    }
+}
+
+// So does a memo, or an arena of plans, that has no room.
+impl From<memo::Full> for Halt {
+    ghost from_gives = { λ full halt. halt ≡ halt_memo full };
+
+    fn from(full: memo::Full) -> Halt {
+        Halt {
+            why: Why::Memo,
+            needed: full.needed,
+        }
+    }
+}
+
+impl From<plan::Full> for Halt {
+    ghost from_gives = { λ full halt. halt ≡ halt_plans full };
+
+    fn from(full: plan::Full) -> Halt {
+        Halt {
+            why: Why::Plans,
+            needed: full.needed,
+        }
+    }
 }
 
 // The same with the registers: what contracts say of a turn and the words then.
@@ -139,62 +185,6 @@ pub enum Reached {
     Go(Registers),
     Stop(Why, u64, Registers),
 }
-
-// The words of the registers, by name; specs/Lent.antt has the same names and says which register each is. How far each store is filled:
-pub const TASKS: usize = 0;
-
-pub const RESULTS: usize = 1;
-
-pub const PENDING: usize = 2;
-
-pub const MEMO: usize = 3;
-
-pub const KEPT: usize = 4;
-
-pub const PLANS: usize = 5;
-
-// The range:
-pub const START: usize = 6;
-
-pub const LEN: usize = 7;
-
-// The frontier that is being built:
-pub const ROOT: usize = 8;
-
-pub const HEAD: usize = 9;
-
-pub const TAIL: usize = 10;
-
-pub const FREE: usize = 11;
-
-pub const USED: usize = 12;
-
-pub const LIVE: usize = 13;
-
-// The counts:
-pub const WORK: usize = 14;
-
-pub const HITS: usize = 15;
-
-pub const MISSES: usize = 16;
-
-pub const GENERATED: usize = 17;
-
-pub const PRUNED: usize = 18;
-
-pub const PEAK: usize = 19;
-
-pub const ENTRIES: usize = 20;
-
-// The peaks:
-pub const STACK_PEAK: usize = 21;
-
-pub const MEMO_PEAK: usize = 22;
-
-pub const FRONTIER_PEAK: usize = 23;
-
-// How many words there are:
-pub const WORDS: usize = 24;
 
 // A sequence's edges, indent and kind are those of its key's node, and are read again there.
 #[derive(Clone, Copy)]
@@ -326,16 +316,6 @@ pub fn wide(number: u32) -> u64
     number as u64
 }
 
-// The word at `place` is n at least. It is stored only where it grows, which a peak seldom does.
-pub fn raise(g: &mut [u64], place: usize, n: u64)
-    requires { place < length g.old }
-    ensures { g.new ≡ lifted g.old place n }
-{
-    if g[place] < n {
-        g[place] = n;
-    }
-}
-
 // Kept candidate `index` of `count`. No run asks for one past the end; the answer there is the definition's.
 pub fn candidate_at(kept: &[[u64; 6]], count: usize, index: usize) -> Candidate
     requires { count ≤ length kept.now }
@@ -350,95 +330,91 @@ pub fn candidate_at(kept: &[[u64; 6]], count: usize, index: usize) -> Candidate
         };
     }
     let row = kept[index];
-    let last = narrow(row[3]);
-    let number = narrow(row[5]);
     Candidate {
         cost: ConsumerCost {
             overflow_high: row[0],
             overflow_low: row[1],
             burden: row[2],
         },
-        last: last,
+        last: narrow(row[3]),
         precedence: row[4],
-        plan: PlanId(number),
+        plan: PlanId(narrow(row[5])),
     }
 }
 
 // ---- stacks
 
-pub fn push_exact_task(b: Bounds, g: &mut [u64], tasks: &mut [[u32; 9]], task: ExactTask) -> Turn
-    requires { (b.stack ≤ length tasks.old) × Held b g.old }
-    ensures meets { (rs ps es ks : List Row) (fs : List ℕ) (ns : List Row) → Meets b (counts (regs g.old)) (push_exact_task (meant task) (abs (regs g.old) tasks.old rs ps es ks fs ns)) (reached result g.new) (λ s. abs s tasks.new rs ps es ks fs ns) }
-    ensures keeps { Keeps (regs g.old) (reached result g.new) }
+pub fn push_exact_task(
+    b: Bounds,
+    g: &mut Registers,
+    tasks: &mut [[u32; 9]],
+    task: ExactTask,
+) -> Result<(), Halt>
+    requires { (b.stack ≤ length tasks.old) × Sound b g.old }
+    ensures meets { (rs ps es ks : List Row) (fs : List ℕ) (ns : List Row) → Meets b (counts g.old) (push_exact_task (meant task) (abs g.old tasks.old rs ps es ks fs ns)) (reached result g.new) (λ s. abs s tasks.new rs ps es ks fs ns) }
+    ensures keeps { Keeps g.old (reached result g.new) }
 {
-    let t = g[TASKS] as usize;
-    let size = b.stack as usize;
-    if size <= t {
-        let needed = (t + 1) as u64;
-        return Turn::Halted(Why::Stack, needed);
+    let top = g.tasks + 1;
+    if (b.stack as usize) < top {
+        return Err(Halt {
+            why: Why::Stack,
+            needed: top as u64,
+        });
     }
-    let row = task_row(task);
-    tasks[t] = row;
-    let top = (t + 1) as u64;
-    g[TASKS] = top;
-    raise(g, STACK_PEAK, top);
-    Turn::Going
+    tasks[g.tasks] = task_row(task);
+    g.tasks = top;
+    g.peaks.stack = g.peaks.stack.max(top);
+    Ok(())
 }
 
 pub fn push_exact_result(
     b: Bounds,
-    g: &mut [u64],
+    g: &mut Registers,
     results: &mut [[u32; 2]],
     start: u32,
     len: u32,
-) -> Turn
-    requires { (b.stack ≤ length results.old) × Held b g.old }
-    ensures meets { (ts ps es ks : List Row) (fs : List ℕ) (ns : List Row) → Meets b (counts (regs g.old)) (push_exact_result (range start len) (abs (regs g.old) ts results.old ps es ks fs ns)) (reached result g.new) (λ s. abs s ts results.new ps es ks fs ns) }
-    ensures keeps { SameMemo (regs g.old) (reached result g.new) }
+) -> Result<(), Halt>
+    requires { (b.stack ≤ length results.old) × Sound b g.old }
+    ensures meets { (ts ps es ks : List Row) (fs : List ℕ) (ns : List Row) → Meets b (counts g.old) (push_exact_result (range start len) (abs g.old ts results.old ps es ks fs ns)) (reached result g.new) (λ s. abs s ts results.new ps es ks fs ns) }
+    ensures keeps { SameMemo g.old (reached result g.new) }
 {
-    let r = g[RESULTS] as usize;
-    let size = b.stack as usize;
-    if size <= r {
-        let needed = (r + 1) as u64;
-        return Turn::Halted(Why::Stack, needed);
+    let top = g.results + 1;
+    if (b.stack as usize) < top {
+        return Err(Halt {
+            why: Why::Stack,
+            needed: top as u64,
+        });
     }
-    results[r] = [start, len];
-    let top = (r + 1) as u64;
-    g[RESULTS] = top;
-    raise(g, STACK_PEAK, top);
-    Turn::Going
+    results[g.results] = [start, len];
+    g.results = top;
+    g.peaks.stack = g.peaks.stack.max(top);
+    Ok(())
 }
 
 // The result on top, as the range of the registers.
-pub fn pop_exact_result(g: &mut [u64], results: &[[u32; 2]])
-    requires { (WORDS ≤ length g.old) × ((1 ≤ (regs g.old).results) × ((regs g.old).results ≤ length results.now)) }
-    ensures is { (ts ps es ks : List Row) (fs : List ℕ) (ns : List Row) → pop_exact_result (abs (regs g.old) ts results.now ps es ks fs ns) ≡ ret (got (range (regs g.new).start (regs g.new).len) (abs (regs g.new) ts results.now ps es ks fs ns)) }
-    ensures popped { Popped (regs g.old) (regs g.new) }
+pub fn pop_exact_result(g: &mut Registers, results: &[[u32; 2]])
+    requires { (1 ≤ g.old.results) × (g.old.results ≤ length results.now) }
+    ensures is { (ts ps es ks : List Row) (fs : List ℕ) (ns : List Row) → pop_exact_result (abs g.old ts results.now ps es ks fs ns) ≡ ret (got (range g.new.start g.new.len) (abs g.new ts results.now ps es ks fs ns)) }
+    ensures popped { Popped g.old g.new }
 {
-    let top = g[RESULTS] as usize - 1;
-    let row = results[top];
-    let start = wide(row[0]);
-    let len = wide(row[1]);
-    g[RESULTS] = top as u64;
-    g[START] = start;
-    g[LEN] = len;
+    g.results -= 1;
+    let row = results[g.results];
+    g.start = row[0];
+    g.len = row[1];
 }
 
 // A candidate with its pending plan in words.
 pub fn scratch_candidate(cost: ConsumerCost, last: u32, plan: PendingPlan) -> ScratchCandidate
     ensures { survivor (carried result) ≡ scratch (value cost) last (plan_of plan) }
 {
-    let words = plan::pending_record(plan);
-    let kind = words.kind as u64;
-    let first = words.first as u64;
-    let second = words.second as u64;
+    let words = PlanRecord::from(plan);
     ScratchCandidate {
-        cost: cost,
-        last: last,
+        cost,
+        last,
         precedence: 0,
-        kind: kind,
-        first: first,
-        second: second,
+        kind: words.kind as u64,
+        first: words.first as u64,
+        second: words.second as u64,
     }
 }
 
@@ -448,14 +424,13 @@ pub fn pending_at(pending: &[[u64; 7]], index: usize) -> ScratchCandidate
     ensures { survivor (carried result) ≡ scratch_of (get_or pending.now index []) }
 {
     let row = pending[index];
-    let last = narrow(row[3]);
     ScratchCandidate {
         cost: ConsumerCost {
             overflow_high: row[0],
             overflow_low: row[1],
             burden: row[2],
         },
-        last: last,
+        last: narrow(row[3]),
         precedence: 0,
         kind: row[4],
         first: row[5],
@@ -465,123 +440,97 @@ pub fn pending_at(pending: &[[u64; 7]], index: usize) -> ScratchCandidate
 
 // ---- work: one unit, tested first, and the count that moves with it
 
-pub fn work_hit(b: Bounds, g: &mut [u64]) -> Turn
-    requires { Held b g.old }
-    ensures meets { (ts rs ps es ks : List Row) (fs : List ℕ) (ns : List Row) → Meets b (counts (regs g.old)) (ticked Hit (abs (regs g.old) ts rs ps es ks fs ns)) (reached result g.new) (λ s. abs s ts rs ps es ks fs ns) }
-    ensures keeps { Keeps (regs g.old) (reached result g.new) }
+pub fn work_hit(b: Bounds, g: &mut Registers) -> Result<(), Halt>
+    requires { Sound b g.old }
+    ensures meets { (ts rs ps es ks : List Row) (fs : List ℕ) (ns : List Row) → Meets b (counts g.old) (ticked Hit (abs g.old ts rs ps es ks fs ns)) (reached result g.new) (λ s. abs s ts rs ps es ks fs ns) }
+    ensures keeps { Keeps g.old (reached result g.new) }
 {
-    let work = g[WORK];
-    let hits = g[HITS];
-    if b.work_limit <= work {
-        return Turn::Halted(Why::Work, 0);
+    if b.work_limit <= g.stats.work_items {
+        return Err(Halt {
+            why: Why::Work,
+            needed: 0,
+        });
     }
-    g[WORK] = work + 1;
-    g[HITS] = hits + 1;
-    Turn::Going
+    g.stats.work_items += 1;
+    g.stats.memo_hits += 1;
+    Ok(())
 }
 
-pub fn work_miss(b: Bounds, g: &mut [u64]) -> Turn
-    requires { Held b g.old }
-    ensures meets { (ts rs ps es ks : List Row) (fs : List ℕ) (ns : List Row) → Meets b (counts (regs g.old)) (ticked Miss (abs (regs g.old) ts rs ps es ks fs ns)) (reached result g.new) (λ s. abs s ts rs ps es ks fs ns) }
-    ensures keeps { Keeps (regs g.old) (reached result g.new) }
+pub fn work_miss(b: Bounds, g: &mut Registers) -> Result<(), Halt>
+    requires { Sound b g.old }
+    ensures meets { (ts rs ps es ks : List Row) (fs : List ℕ) (ns : List Row) → Meets b (counts g.old) (ticked Miss (abs g.old ts rs ps es ks fs ns)) (reached result g.new) (λ s. abs s ts rs ps es ks fs ns) }
+    ensures keeps { Keeps g.old (reached result g.new) }
 {
-    let work = g[WORK];
-    let misses = g[MISSES];
-    if b.work_limit <= work {
-        return Turn::Halted(Why::Work, 0);
+    if b.work_limit <= g.stats.work_items {
+        return Err(Halt {
+            why: Why::Work,
+            needed: 0,
+        });
     }
-    g[WORK] = work + 1;
-    g[MISSES] = misses + 1;
-    Turn::Going
+    g.stats.work_items += 1;
+    g.stats.memo_misses += 1;
+    Ok(())
 }
 
 // ---- the memo
 
 pub fn memo_insert(
     b: Bounds,
-    g: &mut [u64],
+    g: &mut Registers,
     index: &mut [u64],
     entries: &mut [[u64; 6]],
     key: MemoKey,
     start: u32,
     len: u32,
-) -> Turn
-    requires { Memory b (regs g.old).memo index.old entries.old × Held b g.old }
-    ensures meets { (ts rs ps ks : List Row) (fs : List ℕ) (ns : List Row) → Meets b (counts (regs g.old)) (inserting key (range start len) (abs (regs g.old) ts rs ps entries.old ks fs ns)) (reached result g.new) (λ s. abs s ts rs ps entries.new ks fs ns) }
+) -> Result<(), Halt>
+    requires { Memory b g.old.memo index.old entries.old × Sound b g.old }
+    ensures meets { (ts rs ps ks : List Row) (fs : List ℕ) (ns : List Row) → Meets b (counts g.old) (inserting key (range start len) (abs g.old ts rs ps entries.old ks fs ns)) (reached result g.new) (λ s. abs s ts rs ps entries.new ks fs ns) }
     ensures memory { MemoryAt b index.new entries.new (reached result g.new) }
 {
-    let count = g[MEMO] as usize;
+    let count = g.memo;
     let size = b.memo as usize;
-    let first = start as u64;
-    let number = len as u64;
     let range = CandidateRange {
-        start: first,
-        len: number,
+        start: start as u64,
+        len: len as u64,
     };
-    match memo::memo_insert(index, entries, count, size, key, range) {
-        MemoInsertion::Full { needed } => Turn::Halted(Why::Memo, needed),
-        MemoInsertion::Inserted(n) => {
-            let entered = n as u64;
-            g[MEMO] = entered;
-            g[ENTRIES] = entered;
-            raise(g, MEMO_PEAK, count as u64 + 1);
-            Turn::Going
-        }
-    }
+    let n = memo::memo_insert(index, entries, count, size, key, range)?;
+    g.memo = n;
+    g.stats.memo_entries = n as u64;
+    g.peaks.memo = g.peaks.memo.max(count + 1);
+    Ok(())
 }
 
 // A node's range goes into the memo, and onto the results.
 pub fn complete_node(
     b: Bounds,
-    g: &mut [u64],
+    g: &mut Registers,
     index: &mut [u64],
     entries: &mut [[u64; 6]],
     results: &mut [[u32; 2]],
     key: MemoKey,
     start: u32,
     len: u32,
-) -> Turn
-    requires { Memory b (regs g.old).memo index.old entries.old × ((b.stack ≤ length results.old) × Held b g.old) }
-    ensures meets { (ts ps ks : List Row) (fs : List ℕ) (ns : List Row) → Meets b (counts (regs g.old)) (complete_node key (range start len) (abs (regs g.old) ts results.old ps entries.old ks fs ns)) (reached result g.new) (λ s. abs s ts results.new ps entries.new ks fs ns) }
+) -> Result<(), Halt>
+    requires { Memory b g.old.memo index.old entries.old × ((b.stack ≤ length results.old) × Sound b g.old) }
+    ensures meets { (ts ps ks : List Row) (fs : List ℕ) (ns : List Row) → Meets b (counts g.old) (complete_node key (range start len) (abs g.old ts results.old ps entries.old ks fs ns)) (reached result g.new) (λ s. abs s ts results.new ps entries.new ks fs ns) }
     ensures memory { MemoryAt b index.new entries.new (reached result g.new) }
 {
-    let a = memo_insert(b, g, index, entries, key, start, len);
-    let Turn::Going = a else {
-        return a;
-    };
+    memo_insert(b, g, index, entries, key, start, len)?;
     push_exact_result(b, g, results, start, len)
 }
 
 // The completing task, and then a child.
 pub fn push_child(
     b: Bounds,
-    g: &mut [u64],
+    g: &mut Registers,
     tasks: &mut [[u32; 9]],
     task: ExactTask,
     child: MemoKey,
-) -> Turn
-    requires { (b.stack ≤ length tasks.old) × Held b g.old }
-    ensures meets { (R : Rules) (P : Prepared) (rs ps es ks : List Row) (fs : List ℕ) (ns : List Row) → Meets b (counts (regs g.old)) (push_child R P (meant task) child (abs (regs g.old) tasks.old rs ps es ks fs ns)) (reached result g.new) (λ s. abs s tasks.new rs ps es ks fs ns) }
-    ensures keeps { Keeps (regs g.old) (reached result g.new) }
+) -> Result<(), Halt>
+    requires { (b.stack ≤ length tasks.old) × Sound b g.old }
+    ensures meets { (R : Rules) (P : Prepared) (rs ps es ks : List Row) (fs : List ℕ) (ns : List Row) → Meets b (counts g.old) (push_child R P (meant task) child (abs g.old tasks.old rs ps es ks fs ns)) (reached result g.new) (λ s. abs s tasks.new rs ps es ks fs ns) }
+    ensures keeps { Keeps g.old (reached result g.new) }
 {
-    let t = g[TASKS] as usize;
-    let size = b.stack as usize;
-    if size <= t {
-        let needed = (t + 1) as u64;
-        return Turn::Halted(Why::Stack, needed);
-    }
-    let row = task_row(task);
-    tasks[t] = row;
-    let u = t + 1;
-    g[TASKS] = u as u64;
-    if size <= u {
-        let needed = (u + 1) as u64;
-        return Turn::Halted(Why::Stack, needed);
-    }
-    let inner = task_row(ExactTask::Eval(child));
-    tasks[u] = inner;
-    let top = (u + 1) as u64;
-    g[TASKS] = top;
-    raise(g, STACK_PEAK, top);
-    Turn::Going
+    push_exact_task(b, g, tasks, task)?;
+    push_exact_task(b, g, tasks, ExactTask::Eval(child))
 }

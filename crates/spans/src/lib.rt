@@ -10,37 +10,29 @@ use file_tables::AnnotationId;
 pub struct SpanId(pub u32);
 
 #[derive(Clone, Copy)]
-pub enum Parent {
-    Nothing,
-    Span(SpanId),
-}
-
-#[derive(Clone, Copy)]
 pub struct AnnotationSpan {
     pub annotation: AnnotationId,
     pub start: u64,
     pub end: u64,
-    pub parent: Parent,
+    pub parent: Option<SpanId>,
 }
 
 // A span where it is opened, and the same span where it is closed.
-pub fn opened(annotation: AnnotationId, position: u64, parent: Parent) -> AnnotationSpan
+pub fn opened(annotation: AnnotationId, position: u64, parent: Option<SpanId>) -> AnnotationSpan
     ensures { result ≡ open_span annotation position parent }
 {
     AnnotationSpan {
-        annotation: annotation,
+        annotation,
         start: position,
         end: position,
-        parent: parent,
+        parent,
     }
 }
 
 pub fn closed(s: AnnotationSpan, position: u64) -> AnnotationSpan
     ensures { result ≡ close_span s position }
 {
-    let mut t = s;
-    t.end = position;
-    t
+    AnnotationSpan { end: position, ..s }
 }
 
 // A span is opened in the lent list.
@@ -49,7 +41,7 @@ pub fn open_span(
     at: usize,
     annotation: AnnotationId,
     position: u64,
-    parent: Parent,
+    parent: Option<SpanId>,
 )
     requires { at < length spans.old }
     ensures { spans.new ≡ set spans.old at (open_span annotation position parent) }
@@ -66,13 +58,13 @@ pub fn close_span(spans: &mut [AnnotationSpan], at: usize, position: u64)
 }
 
 // A parent as a word holds it: 0 is none, and k + 1 the span k.
-pub fn parent_of(w: u64) -> Parent
+pub fn parent_of(w: u64) -> Option<SpanId>
     requires { word_fits w }
     ensures { result ≡ parent_from w }
 {
     if w == 0 {
-        Parent::Nothing
+        None
     } else {
-        Parent::Span(SpanId((w - 1) as u32))
+        Some(SpanId((w - 1) as u32))
     }
 }

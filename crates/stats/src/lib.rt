@@ -53,24 +53,12 @@ pub fn incremented(s: SolveStats, c: SolveCounter) -> SolveStats
 {
     let mut t = s;
     match c {
-        SolveCounter::WorkItems => {
-            t.work_items = t.work_items + 1;
-        }
-        SolveCounter::MemoHits => {
-            t.memo_hits = t.memo_hits + 1;
-        }
-        SolveCounter::MemoMisses => {
-            t.memo_misses = t.memo_misses + 1;
-        }
-        SolveCounter::CandidatesGenerated => {
-            t.candidates_generated = t.candidates_generated + 1;
-        }
-        SolveCounter::CandidatesPruned => {
-            t.candidates_pruned = t.candidates_pruned + 1;
-        }
-        SolveCounter::Visits => {
-            t.visits = t.visits + 1;
-        }
+        SolveCounter::WorkItems => t.work_items += 1,
+        SolveCounter::MemoHits => t.memo_hits += 1,
+        SolveCounter::MemoMisses => t.memo_misses += 1,
+        SolveCounter::CandidatesGenerated => t.candidates_generated += 1,
+        SolveCounter::CandidatesPruned => t.candidates_pruned += 1,
+        SolveCounter::Visits => t.visits += 1,
     }
     t
 }

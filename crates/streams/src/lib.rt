@@ -15,14 +15,11 @@ pub fn read_full<R: Read>(reader: &mut R, buf: &mut [u8]) -> (usize, io::Result<
     ensures end { OnOk result.1 (result.0 < length buf.new → IsAtEnd (R.remaining reader.new)) }
 {
     let mut done = 0;
+    // A while loop: each read says how far it came.
     while done < buf.len() {
         match reader.read(&mut buf[done..]) {
-            Ok(n) => {
-                if n == 0 {
-                    return (done, Ok(()));
-                }
-                done += n;
-            }
+            Ok(0) => break,
+            Ok(n) => done += n,
             Err(e) => return (done, Err(e)),
         }
     }

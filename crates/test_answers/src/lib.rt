@@ -3,12 +3,11 @@
 
 use call_words::accounts::row_counts;
 use cost::ConsumerCost;
-use render::page::Rendered;
+use render::page::{Page, Refusal, Rendered};
 use solve_workspace::{Bounds, Needs};
 use stats::SolveStats;
 use std::io;
 use std::io::Write;
-use streams::{print_decimal, print_hex};
 
 pub fn bounds_of(s: [u64; 9], l: [u64; 2]) -> Bounds {
     Bounds {
@@ -28,22 +27,17 @@ pub fn bounds_of(s: [u64; 9], l: [u64; 2]) -> Bounds {
 
 // A line is handed on. Where the next one begins.
 pub fn hand_on<W: Write>(writer: &mut W, input: &[u8], from: usize) -> io::Result<usize> {
-    let to = test_lines::behind(input, from, 10);
-    if to <= input.len() {
-        if from <= to {
-            writer.write_all(&input[from..to])?;
-        }
+    let to = test_lines::behind(input, from, b'\n');
+    if from <= to && to <= input.len() {
+        writer.write_all(&input[from..to])?;
     }
     Ok(to)
 }
 
 pub fn print_numbers<W: Write>(writer: &mut W, word: &[u8], numbers: &[u64]) -> io::Result<()> {
     writer.write_all(word)?;
-    let mut i: usize = 0;
-    while i < numbers.len() {
-        writer.write_all(b" ")?;
-        print_decimal(writer, numbers[i])?;
-        i += 1;
+    for n in numbers {
+        write!(writer, " {n}")?;
     }
     writer.write_all(b"\n")
 }
@@ -66,34 +60,17 @@ fn print_counts<W: Write>(writer: &mut W, k: SolveStats) -> io::Result<()> {
 
 fn print_needs<W: Write>(writer: &mut W, q: Needs) -> io::Result<()> {
     let needs = [
-        q.stack as u64,
-        q.memo as u64,
-        q.kept as u64,
-        q.frontier as u64,
-        q.plans as u64,
-        q.visit as u64,
-        q.depth as u64,
-        q.output as u64,
-        q.spans as u64,
+        u64::from(q.stack),
+        u64::from(q.memo),
+        u64::from(q.kept),
+        u64::from(q.frontier),
+        u64::from(q.plans),
+        u64::from(q.visit),
+        u64::from(q.depth),
+        u64::from(q.output),
+        u64::from(q.spans),
     ];
     print_numbers(writer, b"needs", &needs)
-}
-
-fn print_byte<W: Write>(writer: &mut W, b: u8) -> io::Result<()> {
-    print_hex(writer, b as u64, 2)
-}
-
-fn print_bytes<W: Write>(writer: &mut W, output: &[u8], count: usize) -> io::Result<()> {
-    let mut i: usize = 0;
-    while i < output.len() {
-        if count <= i {
-            return Ok(());
-        }
-        let b = output[i];
-        print_byte(writer, b)?;
-        i += 1;
-    }
-    Ok(())
 }
 
 fn print_page<W: Write>(writer: &mut W, output: &[u8], count: usize) -> io::Result<()> {
@@ -101,48 +78,27 @@ fn print_page<W: Write>(writer: &mut W, output: &[u8], count: usize) -> io::Resu
     if count == 0 {
         return writer.write_all(b"-\n");
     }
-    print_bytes(writer, output, count)?;
+    for b in output.iter().take(count) {
+        write!(writer, "{b:02x}")?;
+    }
     writer.write_all(b"\n")
 }
 
 fn print_cost<W: Write>(writer: &mut W, cost: ConsumerCost) -> io::Result<()> {
-    writer.write_all(b"cost ")?;
-    print_hex(writer, cost.overflow_high, 16)?;
-    print_hex(writer, cost.overflow_low, 16)?;
-    let burden = [cost.burden];
-    print_numbers(writer, b"", &burden)
+    writeln!(
+        writer,
+        "cost {:016x}{:016x} {}",
+        cost.overflow_high, cost.overflow_low, cost.burden
+    )
 }
 
-fn print_parent<W: Write>(writer: &mut W, parent: u64) -> io::Result<()> {
-    if parent == 0 {
-        return writer.write_all(b"-\n");
-    }
-    print_decimal(writer, parent - 1)?;
-    writer.write_all(b"\n")
-}
-
+// The last word of a span's row is one more than its parent, 0 where it has none.
 fn print_span<W: Write>(writer: &mut W, row: [u64; 4]) -> io::Result<()> {
-    writer.write_all(b"span ")?;
-    print_decimal(writer, row[0])?;
-    writer.write_all(b" ")?;
-    print_decimal(writer, row[1])?;
-    writer.write_all(b" ")?;
-    print_decimal(writer, row[2])?;
-    writer.write_all(b" ")?;
-    print_parent(writer, row[3])
-}
-
-fn print_spans<W: Write>(writer: &mut W, spans: &[[u64; 4]], count: usize) -> io::Result<()> {
-    let mut i: usize = 0;
-    while i < spans.len() {
-        if count <= i {
-            return Ok(());
-        }
-        let row = spans[i];
-        print_span(writer, row)?;
-        i += 1;
+    write!(writer, "span {} {} {} ", row[0], row[1], row[2])?;
+    match row[3].checked_sub(1) {
+        Some(parent) => writeln!(writer, "{parent}"),
+        None => writer.write_all(b"-\n"),
     }
-    Ok(())
 }
 
 // A page or a refusal, and an empty line.
@@ -153,27 +109,19 @@ pub fn print_answer<W: Write>(
     spans: &[[u64; 4]],
 ) -> io::Result<()> {
     match r {
-        Rendered::Refused {
-            number,
-            needed,
-            stats,
-        } => {
-            let numbers = [number as u64, needed];
-            print_numbers(writer, b"refused", &numbers)?;
-            print_counts(writer, stats)?;
+        Ok(page) => {
+            print_page(writer, output, page.length)?;
+            print_cost(writer, page.cost)?;
+            for row in spans.iter().take(page.spans) {
+                print_span(writer, *row)?;
+            }
+            print_counts(writer, page.stats)?;
+            print_needs(writer, page.needs)?;
         }
-        Rendered::Page {
-            cost,
-            length,
-            spans: count,
-            stats,
-            needs,
-        } => {
-            print_page(writer, output, length)?;
-            print_cost(writer, cost)?;
-            print_spans(writer, spans, count)?;
-            print_counts(writer, stats)?;
-            print_needs(writer, needs)?;
+        Err(refusal) => {
+            let numbers = [u64::from(refusal.number), refusal.needed];
+            print_numbers(writer, b"refused", &numbers)?;
+            print_counts(writer, refusal.stats)?;
         }
     }
     writer.write_all(b"\n")
@@ -196,26 +144,25 @@ fn needs_in(w: [u64; 26]) -> Needs {
 }
 
 fn answer_in(w: [u64; 26]) -> Rendered {
-    let k = row_counts(w);
-    if w[0] != 0 {
-        return Rendered::Refused {
+    let stats = row_counts(w);
+    if w[0] == 0 {
+        Ok(Page {
+            cost: ConsumerCost {
+                overflow_high: w[4],
+                overflow_low: w[5],
+                burden: w[6],
+            },
+            length: w[2] as usize,
+            spans: w[3] as usize,
+            stats,
+            needs: needs_in(w),
+        })
+    } else {
+        Err(Refusal {
             number: test_lines::small(w[0]),
             needed: w[1],
-            stats: k,
-        };
-    }
-    let q = needs_in(w);
-    let c = ConsumerCost {
-        overflow_high: w[4],
-        overflow_low: w[5],
-        burden: w[6],
-    };
-    Rendered::Page {
-        cost: c,
-        length: w[2] as usize,
-        spans: w[3] as usize,
-        stats: k,
-        needs: q,
+            stats,
+        })
     }
 }
 
@@ -226,6 +173,5 @@ pub fn print_row<W: Write>(
     output: &[u8],
     spans: &[[u64; 4]],
 ) -> io::Result<()> {
-    let r = answer_in(w);
-    print_answer(writer, r, output, spans)
+    print_answer(writer, answer_in(w), output, spans)
 }

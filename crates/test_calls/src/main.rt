@@ -50,13 +50,11 @@ fn call_at<W: Write>(writer: &mut W, input: &[u8], from: usize) -> io::Result<us
 
 fn all<W: Write>(writer: &mut W, input: &[u8]) -> io::Result<()> {
     let mut at: usize = 0;
-    let mut k: usize = 0;
-    while k < 4096 {
+    for _ in 0..4096 {
         if input.len() <= at {
-            return Ok(());
+            break;
         }
         at = call_at(writer, input, at)?;
-        k += 1;
     }
     Ok(())
 }

@@ -1,7 +1,6 @@
 -- What the run keeps.
-use Rattle.std.specs.Prelude.{◌≡◌, ℕ, ◌≤◌, List}
+use Rattle.std.specs.Prelude.{◌≡◌, ℕ, ◌≤◌, List, Option}
 use Rattle.layout.specs.Frontier.{Cand}
-use Rattle.frontier.specs.Passed.{Link}
 use Rattle.frontier.specs.Candidates.{Pending, Going}
 use Rattle.frontier.specs.Kept.{Frontier}
 use Rattle.test_frontier.specs.declared.State.{State}
@@ -18,6 +17,6 @@ pub record Renewed (s r : State) : Type 0 where
   pub ready : (m : List ℕ) → Ready m s → Ready m r
 
 -- somewhere on the walk along the survivors
-pub record Somewhere (m : List ℕ) (c : Link) : Type 0 where
+pub record Somewhere (m : List ℕ) (c : Option ℕ) : Type 0 where
   pub xs : List (Cand Pending)
   pub going : Going m c xs

@@ -4,111 +4,90 @@
 
 ghost use Rattle.std.specs.Prelude.{◌≤◌, length};
 
-// How far a line has come: its bytes, half a byte (16: none), and whether a remark has begun.
+// How far a line has come: its bytes, the half of the next one, and whether a remark has begun.
 #[derive(Clone, Copy)]
 pub struct Line {
     pub n: usize,
-    pub half: u8,
+    pub half: Option<u8>,
     pub remark: bool,
 }
 
 pub fn begun() -> Line {
     Line {
         n: 0,
-        half: 16,
+        half: None,
         remark: false,
     }
 }
 
-// The digit's value, or 16.
-fn nibble(c: u8) -> u8 {
-    if c < 48 {
-        return 16;
+// The digit's value.
+fn nibble(c: u8) -> Option<u8> {
+    match c {
+        b'0'..=b'9' => Some(c - b'0'),
+        b'a'..=b'f' => Some(c - b'a' + 10),
+        _ => None,
     }
-    if c <= 57 {
-        return c - 48;
-    }
-    if c < 97 {
-        return 16;
-    }
-    if c <= 102 {
-        return c - 87;
-    }
-    16
 }
 
 // One more byte; how many there are then.
 pub fn push(bytes: &mut [u8], n: usize, b: u8) -> usize {
     if n < bytes.len() {
         bytes[n] = b;
-        return n + 1;
+        n + 1
+    } else {
+        bytes.len()
     }
-    bytes.len()
 }
 
 // How many bytes the line has in the slice.
 pub fn count(line: Line, bytes: &[u8]) -> usize
     ensures { result ≤ length bytes.now }
 {
-    let n = line.n;
-    if n <= bytes.len() {
-        return n;
-    }
-    bytes.len()
+    line.n.min(bytes.len())
 }
 
 fn digit(line: Line, d: u8, bytes: &mut [u8]) -> Line {
-    let half = line.half;
-    if 15 < half {
-        return Line {
-            n: line.n,
-            half: d,
-            remark: false,
-        };
-    }
-    if 15 < d {
-        return line;
-    }
-    let n = push(bytes, line.n, half * 16 + d);
-    Line {
-        n: n,
-        half: 16,
-        remark: false,
+    match line.half {
+        None => Line {
+            half: Some(d),
+            ..line
+        },
+        Some(half) => Line {
+            n: push(bytes, line.n, half << 4 | d),
+            half: None,
+            ..line
+        },
     }
 }
 
 // One more byte of the line.
 pub fn step(line: Line, c: u8, bytes: &mut [u8]) -> Line {
     if line.remark {
-        return line;
-    }
-    if c == 35 {
-        return Line {
-            n: line.n,
-            half: 16,
+        line
+    } else if c == b'#' {
+        Line {
+            half: None,
             remark: true,
-        };
+            ..line
+        }
+    } else {
+        match nibble(c) {
+            Some(d) => digit(line, d, bytes),
+            None => line,
+        }
     }
-    let d = nibble(c);
-    if d < 16 {
-        return digit(line, d, bytes);
-    }
-    line
 }
 
 // ---- lines with a word before
 
 // The place behind the next byte `c`, or the end.
 pub fn behind(input: &[u8], from: usize, c: u8) -> usize {
-    let mut at = from;
-    while at < input.len() {
-        let b = input[at];
-        at += 1;
-        if b == c {
-            return at;
+    for i in from..input.len() {
+        if input[i] == c {
+            return i + 1;
         }
     }
-    at
+    input.len()
 }
 
 // The file that a line holds, and where the line ends.
@@ -119,22 +98,16 @@ pub struct Read {
 }
 
 pub fn file_at(input: &[u8], from: usize, file: &mut [u8]) -> Read {
-    let mut at = behind(input, from, 32);
     let mut line = begun();
-    while at < input.len() {
-        let c = input[at];
-        at += 1;
-        if c == 10 {
-            return Read {
-                line: line,
-                next: at,
-            };
+    for i in behind(input, from, b' ')..input.len() {
+        if input[i] == b'\n' {
+            return Read { line, next: i + 1 };
         }
-        line = step(line, c, file);
+        line = step(line, input[i], file);
     }
     Read {
-        line: line,
-        next: at,
+        line,
+        next: input.len(),
     }
 }
 
@@ -146,61 +119,41 @@ pub struct Number {
 
 // One digit more, as long as there is room for it: numbers up to 2^64 - 1.
 fn onward(value: u64, c: u8) -> u64 {
-    if c < 48 {
-        return value;
+    match c {
+        b'0'..=b'9' => value
+            .checked_mul(10)
+            .and_then(|tens| tens.checked_add(u64::from(c - b'0')))
+            .unwrap_or(value),
+        _ => value,
     }
-    if 57 < c {
-        return value;
-    }
-    let digit = (c - 48) as u64;
-    if value < 1844674407370955161 {
-        return value * 10 + digit;
-    }
-    if 1844674407370955161 < value {
-        return value;
-    }
-    if 5 < digit {
-        return value;
-    }
-    value * 10 + digit
 }
 
 pub fn number_at(input: &[u8], from: usize) -> Number {
     let mut value: u64 = 0;
-    let mut at = from;
-    while at < input.len() {
-        let c = input[at];
-        at += 1;
-        if c < 48 {
-            return Number {
-                value: value,
-                next: at,
-            };
+    for i in from..input.len() {
+        if input[i] < b'0' {
+            return Number { value, next: i + 1 };
         }
-        value = onward(value, c);
+        value = onward(value, input[i]);
     }
     Number {
-        value: value,
-        next: at,
+        value,
+        next: input.len(),
     }
 }
 
 // A line's numbers, behind its word.
 pub fn numbers_at(input: &[u8], from: usize, numbers: &mut [u64]) -> usize {
-    let mut at = behind(input, from, 32);
-    let mut i: usize = 0;
-    while i < numbers.len() {
-        let n = number_at(input, at);
-        numbers[i] = n.value;
-        at = n.next;
-        i += 1;
+    let mut at = behind(input, from, b' ');
+    for n in numbers.iter_mut() {
+        let number = number_at(input, at);
+        *n = number.value;
+        at = number.next;
     }
     at
 }
 
+// The number, or the largest that there is.
 pub fn small(n: u64) -> u32 {
-    if n <= 4294967295 {
-        return n as u32;
-    }
-    4294967295
+    u32::try_from(n).unwrap_or(u32::MAX)
 }

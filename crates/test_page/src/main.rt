@@ -18,39 +18,32 @@ fn again(line: Line, input: &mut [u8]) -> Line {
         return line;
     }
     let k = test_lines::count(line, input);
-    let mut n = k;
-    let mut i: usize = 0;
-    while i < k {
-        let b = input[i];
-        n = test_lines::push(input, n, b);
-        i += 1;
-    }
+    let more = k.min(input.len() - k);
+    input.copy_within(..more, k);
     Line {
-        n: n,
-        half: 16,
-        remark: false,
+        n: k + more,
+        half: None,
+        ..line
     }
 }
 
 // One more byte; at the end of a line its input is told.
 fn turn<W: Write>(writer: &mut W, line: Line, c: u8, input: &mut [u8]) -> io::Result<Line> {
-    if c == 10 {
-        let n = test_lines::count(line, input);
-        tell(writer, &input[..n])?;
-        return Ok(test_lines::begun());
+    match c {
+        b'\n' => {
+            let n = test_lines::count(line, input);
+            tell(writer, &input[..n])?;
+            Ok(test_lines::begun())
+        }
+        b'*' => Ok(again(line, input)),
+        _ => Ok(test_lines::step(line, c, input)),
     }
-    if c == 42 {
-        return Ok(again(line, input));
-    }
-    Ok(test_lines::step(line, c, input))
 }
 
 fn all<W: Write>(writer: &mut W, lines: &[u8], input: &mut [u8]) -> io::Result<()> {
     let mut line = test_lines::begun();
-    let mut i: usize = 0;
-    while i < lines.len() {
-        line = turn(writer, line, lines[i], input)?;
-        i += 1;
+    for c in lines {
+        line = turn(writer, line, *c, input)?;
     }
     Ok(())
 }

@@ -6,12 +6,10 @@
 ghost use Rattle.std.specs.Prelude.{◌≤◌};
 
 use file_tables::{NodeId, TextId};
-use prepare::read::{Answer, read};
-use prepare::write::{FileCounts, Outcome, write};
+use prepare::read::read;
+use prepare::write::{FileCounts, write};
 use std::io;
 use std::io::Write;
-use std::num::wrapping_add_u32;
-use streams::{print_decimal, print_hex};
 
 // Pairs that are right, pairs that are 3, and whether the kind's line has begun.
 #[derive(Clone, Copy)]
@@ -22,17 +20,15 @@ struct Tally {
 }
 
 // One map more on a kind's line.
-fn say<W: Write>(writer: &mut W, t: Tally, k: u8, m: u8, mark: &[u8]) -> io::Result<Tally> {
+fn say<W: Write>(writer: &mut W, t: Tally, k: u8, m: u8, mark: &str) -> io::Result<Tally> {
     if !t.begun {
-        print_decimal(writer, k as u64)?;
+        write!(writer, "{k}")?;
     }
-    writer.write_all(b" ")?;
-    print_hex(writer, m as u64, 2)?;
-    writer.write_all(mark)?;
+    write!(writer, " {m:02x}{mark}")?;
     Ok(Tally {
-        right: wrapping_add_u32(t.right, 1),
-        wrong: t.wrong,
+        right: t.right.wrapping_add(1),
         begun: true,
+        ..t
     })
 }
 
@@ -46,30 +42,24 @@ fn tell<W: Write>(
     usual: u32,
 ) -> io::Result<Tally> {
     if answer == 3 {
-        return Ok(Tally {
-            right: t.right,
-            wrong: wrapping_add_u32(t.wrong, 1),
-            begun: t.begun,
-        });
+        Ok(Tally {
+            wrong: t.wrong.wrapping_add(1),
+            ..t
+        })
+    } else if answer == usual {
+        say(writer, t, k, m, "")
+    } else if answer == 10 {
+        say(writer, t, k, m, "*")
+    } else {
+        Ok(t)
     }
-    if answer == usual {
-        return say(writer, t, k, m, b"");
-    }
-    if answer == 10 {
-        return say(writer, t, k, m, b"*");
-    }
-    Ok(t)
 }
 
 fn end_line<W: Write>(writer: &mut W, t: Tally) -> io::Result<Tally> {
     if t.begun {
         writer.write_all(b"\n")?;
     }
-    Ok(Tally {
-        right: t.right,
-        wrong: t.wrong,
-        begun: false,
-    })
+    Ok(Tally { begun: false, ..t })
 }
 
 fn bit(m: u8, weight: u8) -> u32
@@ -87,14 +77,6 @@ fn announced(m: u8) -> usize
     n as usize
 }
 
-// A field of value 2 where it stands, and otherwise a part of an edge to node 0.
-fn two(stands: bool) -> u8 {
-    if stands {
-        return 2;
-    }
-    0
-}
-
 // 4 nodes, the last one with the pair, the others Empty; 4 edges and 4 choice edges, all to node 0; 3 texts, 3 annotations. Each field that the map announces is 2.
 fn whole_file(m: u8, k: u8, n: usize) -> [u8; 112]
     requires { n ≤ 6 }
@@ -108,12 +90,9 @@ fn whole_file(m: u8, k: u8, n: usize) -> [u8; 112]
     file[17] = 4;
     file[27] = m;
     file[28] = k;
-    file[29] = two(0 < n);
-    file[33] = two(1 < n);
-    file[37] = two(2 < n);
-    file[41] = two(3 < n);
-    file[45] = two(4 < n);
-    file[49] = two(5 < n);
+    for field in 0..n {
+        file[29 + field * 4] = 2;
+    }
     let text = 61 + n * 4;
     file[text] = 3;
     file[text + 1] = 1;
@@ -130,10 +109,9 @@ fn read_number(
     texts: &mut [[u32; 3]; 4096],
     bytes: &mut [u8; 65536],
 ) -> u32 {
-    let answer = read(file, nodes, edges, choices, texts, bytes);
-    match answer {
-        Answer::Accepted(_) => 0,
-        Answer::Refused(number) => number,
+    match read(file, nodes, edges, choices, texts, bytes) {
+        Ok(_) => 0,
+        Err(number) => number,
     }
 }
 
@@ -150,11 +128,11 @@ fn pair_number(
     if whole {
         let n = announced(m);
         let file = whole_file(m, k, n);
-        let end = 73 + n * 4;
-        return read_number(&file[..end], nodes, edges, choices, texts, bytes);
+        read_number(&file[..73 + n * 4], nodes, edges, choices, texts, bytes)
+    } else {
+        let file = [5u8, 1, 0, 0, 0, 1, 0, 0, 0, m, k];
+        read_number(&file, nodes, edges, choices, texts, bytes)
     }
-    let file = [5u8, 1, 0, 0, 0, 1, 0, 0, 0, m, k];
-    read_number(&file, nodes, edges, choices, texts, bytes)
 }
 
 fn read_line<W: Write>(
@@ -164,16 +142,13 @@ fn read_line<W: Write>(
     usual: u32,
     k: u8,
 ) -> io::Result<Tally> {
-    let node = [0u32; 8];
-    let mut nodes = [node; 4096];
+    let mut nodes = [[0u32; 8]; 4096];
     let mut edges = [0u32; 16384];
     let mut choices = [0u32; 16384];
-    let text = [0u32; 3];
-    let mut texts = [text; 4096];
+    let mut texts = [[0u32; 3]; 4096];
     let mut bytes = [0u8; 65536];
     let mut told = t;
-    let mut m: u32 = 0;
-    while m < 256 {
+    for m in 0..256u32 {
         let map = m as u8;
         let answer = pair_number(
             whole,
@@ -186,7 +161,6 @@ fn read_line<W: Write>(
             &mut bytes,
         );
         told = tell(writer, told, k, map, answer, usual)?;
-        m += 1;
     }
     end_line(writer, told)
 }
@@ -207,73 +181,54 @@ fn write_number(m: u8, k: u8) -> u32 {
     let texts = [[1u32, 1, 0]; 1];
     let none = [0u32; 1];
     let mut out = [0u8; 64];
-    let root = NodeId(0);
-    let space = TextId(0);
     let n = FileCounts {
         nodes: 1,
         edges: 0,
         choices: 0,
         texts: 1,
         annotations: 0,
-        root: root,
-        space: space,
+        root: NodeId(0),
+        space: TextId(0),
     };
-    let outcome = write(n, &nodes, &none, &none, &texts, b" ", &mut out);
-    match outcome {
-        Outcome::Written(_) => 0,
-        Outcome::Refused(number, _) => number,
+    match write(n, &nodes, &none, &none, &texts, b" ", &mut out) {
+        Ok(_) => 0,
+        Err(refusal) => refusal.number,
     }
 }
 
 fn write_line<W: Write>(writer: &mut W, t: Tally, k: u8) -> io::Result<Tally> {
     let mut told = t;
-    let mut m: u32 = 0;
-    while m < 64 {
-        let map = m as u8;
+    for map in 0..64 {
         let answer = write_number(map, k);
         told = tell(writer, told, k, map, answer, answer)?;
-        m += 1;
     }
     end_line(writer, told)
 }
 
-fn line<W: Write>(writer: &mut W, part: u32, t: Tally, k: u8) -> io::Result<Tally> {
-    if part == 0 {
-        return read_line(writer, t, false, 2, k);
-    }
-    if part == 1 {
-        return read_line(writer, t, true, 0, k);
-    }
-    write_line(writer, t, k)
-}
-
-fn sums<W: Write>(writer: &mut W, t: Tally) -> io::Result<()> {
-    print_decimal(writer, t.right as u64)?;
-    writer.write_all(b" ")?;
-    print_decimal(writer, t.wrong as u64)?;
-    writer.write_all(b"\n")
-}
-
-fn lines<W: Write>(writer: &mut W, part: u32) -> io::Result<()> {
+// The lines of all kinds, each by `line`, and their sums.
+fn lines<W: Write, F: Fn(&mut W, Tally, u8) -> io::Result<Tally>>(
+    writer: &mut W,
+    line: F,
+) -> io::Result<()>
+    requires { F.IsAlwaysCallable line }
+{
     let mut t = Tally {
         right: 0,
         wrong: 0,
         begun: false,
     };
-    let mut k: u32 = 0;
-    while k < 256 {
-        t = line(writer, part, t, k as u8)?;
-        k += 1;
+    for k in 0..256u32 {
+        t = line(writer, t, k as u8)?;
     }
-    sums(writer, t)
+    writeln!(writer, "{} {}", t.right, t.wrong)
 }
 
 fn main(rt: HostRuntime) -> io::Result<()> {
     let writer = &mut rt.stdout();
     writer.write_all(b"files cut behind the kind\n")?;
-    lines(writer, 0)?;
+    lines(writer, |writer, t, k| read_line(writer, t, false, 2, k))?;
     writer.write_all(b"whole files\n")?;
-    lines(writer, 1)?;
+    lines(writer, |writer, t, k| read_line(writer, t, true, 0, k))?;
     writer.write_all(b"tables\n")?;
-    lines(writer, 2)
+    lines(writer, |writer, t, k| write_line(writer, t, k))
 }

@@ -25,10 +25,10 @@ ghost use Rattle.std.specs.Prelude.{◌≤◌, length};
 
 use batch::FiledAll;
 use batch_call::file_all;
-use call_words::accounts::{counts_of, counts_words};
+use call_words::accounts::{counts_of, counts_words, desk_words};
 use desk_call::render_for;
 use desks::{DeskAnswer, Desks, SharedRecord};
-use report_gate::{Head, Opened, open_report};
+use report_gate::{Head, open_report};
 use report_step::{DeskStep, insert, remove};
 use solve_workspace::{Bounds, RenderOptions};
 use std::io;
@@ -54,90 +54,46 @@ struct Turn {
     next: usize,
 }
 
-fn turned(s: State, next: usize) -> Turn {
-    Turn {
-        state: s,
-        next: next,
-    }
-}
-
-fn held(h: Head, b: Bounds, desk: u32, d: Desks, told: bool) -> State {
-    State {
-        head: h,
-        bounds: b,
-        desk: desk,
-        desks: d,
-        told: told,
-    }
-}
-
-fn with_head(s: State, h: Head) -> State {
-    let b = s.bounds;
-    let d = s.desks;
-    held(h, b, s.desk, d, s.told)
-}
-
-fn with_bounds(s: State, b: Bounds) -> State {
-    let h = s.head;
-    let d = s.desks;
-    held(h, b, s.desk, d, s.told)
-}
-
-fn with_desks(s: State, d: Desks) -> State {
-    let h = s.head;
-    let b = s.bounds;
-    held(h, b, s.desk, d, s.told)
-}
-
 fn after(s: State, t: DeskStep) -> State {
-    let h = t.head;
-    let d = t.desks;
-    with_head(with_desks(s, d), h)
+    State {
+        head: t.head,
+        desks: t.desks,
+        ..s
+    }
 }
 
 // ---- lines without a call
 
 // A letter of the line, or 0 at the end.
 fn letter_at(input: &[u8], from: usize, i: usize) -> u8 {
-    if from < input.len() {
-        if i < input.len() - from {
-            return input[from + i];
-        }
+    if from < input.len() && i < input.len() - from {
+        input[from + i]
+    } else {
+        0
     }
-    0
 }
 
 fn print_rows<W: Write>(writer: &mut W, h: Head) -> io::Result<()> {
-    let rows = [h.rows as u64];
-    print_numbers(writer, b"rows", &rows)
+    writeln!(writer, "rows {}", h.rows)
 }
 
 fn print_desks<W: Write>(writer: &mut W, s: State) -> io::Result<()> {
     if s.told {
-        let d = s.desks;
-        let a = d.allowance;
-        let k = d.spent;
-        let numbers = [
-            a[0], a[1], a[2], a[3], a[4], a[5], a[6], a[7], k[0], k[1], k[2], k[3], k[4], k[5],
-            k[6], k[7],
-        ];
-        print_numbers(writer, b"desks", &numbers)?;
+        print_numbers(writer, b"desks", &desk_words(s.desks))?;
     }
     Ok(())
 }
 
 // A report's head, or the one before where it is refused.
 fn opened<W: Write>(writer: &mut W, w: [u64; 4], h: Head) -> io::Result<Head> {
-    let o = open_report(small(w[0]), small(w[1]), small(w[2]), small(w[3]));
-    match o {
-        Opened::Report(head) => {
+    match open_report(small(w[0]), small(w[1]), small(w[2]), small(w[3])) {
+        Ok(head) => {
             print_rows(writer, head)?;
-            return Ok(head);
+            Ok(head)
         }
-        Opened::Refused(number) => {
-            let numbers = [number as u64];
-            print_numbers(writer, b"refused", &numbers)?;
-            return Ok(h);
+        Err(number) => {
+            writeln!(writer, "refused {number}")?;
+            Ok(h)
         }
     }
 }
@@ -145,84 +101,80 @@ fn opened<W: Write>(writer: &mut W, w: [u64; 4], h: Head) -> io::Result<Head> {
 fn open_at<W: Write>(writer: &mut W, input: &[u8], from: usize, s: State) -> io::Result<Turn> {
     let mut w = [0u64; 4];
     let next = numbers_at(input, from, &mut w);
-    let h = s.head;
-    let head = opened(writer, w, h)?;
+    let head = opened(writer, w, s.head)?;
     writer.write_all(b"\n")?;
-    Ok(turned(with_head(s, head), next))
+    Ok(Turn {
+        state: State { head, ..s },
+        next,
+    })
 }
 
 fn sizes_at(input: &[u8], from: usize, s: State) -> Turn {
     let mut w = [0u64; 9];
     let next = numbers_at(input, from, &mut w);
-    let b = s.bounds;
-    let l = [b.work_limit, b.visit_limit];
-    turned(with_bounds(s, bounds_of(w, l)), next)
-}
-
-fn limited(b: Bounds, l: [u64; 2]) -> Bounds {
-    Bounds {
-        stack: b.stack,
-        memo: b.memo,
-        kept: b.kept,
-        frontier: b.frontier,
-        plans: b.plans,
-        visit: b.visit,
-        depth: b.depth,
-        output: b.output,
-        spans: b.spans,
-        work_limit: l[0],
-        visit_limit: l[1],
+    let bounds = bounds_of(w, [s.bounds.work_limit, s.bounds.visit_limit]);
+    Turn {
+        state: State { bounds, ..s },
+        next,
     }
 }
 
 fn limits_at(input: &[u8], from: usize, s: State) -> Turn {
     let mut l = [0u64; 2];
     let next = numbers_at(input, from, &mut l);
-    let b = s.bounds;
-    turned(with_bounds(s, limited(b, l)), next)
+    let bounds = Bounds {
+        work_limit: l[0],
+        visit_limit: l[1],
+        ..s.bounds
+    };
+    Turn {
+        state: State { bounds, ..s },
+        next,
+    }
 }
 
 fn desk_at(input: &[u8], from: usize, s: State) -> Turn {
     let mut w = [0u64; 1];
     let next = numbers_at(input, from, &mut w);
-    let h = s.head;
-    let b = s.bounds;
-    let d = s.desks;
-    turned(held(h, b, small(w[0]), d, true), next)
+    Turn {
+        state: State {
+            desk: small(w[0]),
+            told: true,
+            ..s
+        },
+        next,
+    }
+}
+
+fn with_desks(s: State, desks: Desks) -> State {
+    State {
+        desks,
+        told: true,
+        ..s
+    }
 }
 
 fn allow_at(input: &[u8], from: usize, s: State) -> Turn {
-    let mut w = [0u64; 8];
-    let next = numbers_at(input, from, &mut w);
-    let h = s.head;
-    let b = s.bounds;
-    let d = Desks {
-        allowance: w,
+    let mut allowance = [0u64; 8];
+    let next = numbers_at(input, from, &mut allowance);
+    let desks = Desks {
+        allowance,
         spent: [0u64; 8],
     };
-    turned(held(h, b, s.desk, d, true), next)
+    Turn {
+        state: with_desks(s, desks),
+        next,
+    }
 }
 
 fn spent_at(input: &[u8], from: usize, s: State) -> Turn {
-    let mut w = [0u64; 8];
-    let next = numbers_at(input, from, &mut w);
-    let h = s.head;
-    let b = s.bounds;
-    let before = s.desks;
-    let a = before.allowance;
-    let d = Desks {
-        allowance: a,
-        spent: w,
-    };
-    turned(held(h, b, s.desk, d, true), next)
-}
-
-// `spent` or `sizes`, by the third letter.
-fn words_at(input: &[u8], from: usize, e: u8, s: State) -> Turn {
-    if e == b'e' {
-        return spent_at(input, from, s);
+    let mut spent = [0u64; 8];
+    let next = numbers_at(input, from, &mut spent);
+    let desks = Desks { spent, ..s.desks };
+    Turn {
+        state: with_desks(s, desks),
+        next,
     }
-    sizes_at(input, from, s)
 }
 
 // `open`, `sizes`, `spent`, `limits`, `desk`, `allow` or any other line, by its first letter and its third.
@@ -234,36 +186,28 @@ fn setting_at<W: Write>(
     e: u8,
     s: State,
 ) -> io::Result<Turn> {
-    if c == b'o' {
-        return open_at(writer, input, from, s);
-    }
-    if c == b's' {
-        return Ok(words_at(input, from, e, s));
-    }
-    if c == b'l' {
-        return Ok(limits_at(input, from, s));
-    }
-    if c == b'd' {
-        return Ok(desk_at(input, from, s));
-    }
-    if c == b'a' {
-        return Ok(allow_at(input, from, s));
-    }
-    Ok(turned(s, hand_on(writer, input, from)?))
-}
-
-fn alter(table: &mut [[u64; 8]], row: usize, word: usize, value: u64) {
-    if row < table.len() {
-        if word < 8 {
-            table[row][word] = value;
-        }
+    match c {
+        b'o' => open_at(writer, input, from, s),
+        b's' if e == b'e' => Ok(spent_at(input, from, s)),
+        b's' => Ok(sizes_at(input, from, s)),
+        b'l' => Ok(limits_at(input, from, s)),
+        b'd' => Ok(desk_at(input, from, s)),
+        b'a' => Ok(allow_at(input, from, s)),
+        _ => Ok(Turn {
+            state: s,
+            next: hand_on(writer, input, from)?,
+        }),
     }
 }
 
 fn word_at(input: &[u8], from: usize, table: &mut [[u64; 8]]) -> usize {
     let mut w = [0u64; 3];
     let next = numbers_at(input, from, &mut w);
-    alter(table, w[0] as usize, w[1] as usize, w[2]);
+    let row = w[0] as usize;
+    let word = w[1] as usize;
+    if row < table.len() && word < 8 {
+        table[row][word] = w[2];
+    }
     next
 }
 
@@ -280,9 +224,6 @@ fn insert_lent(
     output: &mut [u8; 32768],
     spans: &mut [[u64; 4]; 2048],
 ) -> DeskStep {
-    let h = s.head;
-    let b = s.bounds;
-    let d = s.desks;
     let mut nodes = [[0u32; 8]; 4096];
     let mut edges = [0u32; 16384];
     let mut choices = [0u32; 16384];
@@ -302,11 +243,11 @@ fn insert_lent(
     let mut row_spans = [[0u64; 4]; 2048];
     insert(
         s.desk,
-        d,
+        s.desks,
         place,
         file,
-        b,
-        h,
+        s.bounds,
+        s.head,
         table,
         files,
         pages,
@@ -340,12 +281,10 @@ fn tell<W: Write>(
     output: &[u8],
     spans: &[[u64; 4]],
 ) -> io::Result<State> {
-    let answer = t.answer;
-    let head = t.head;
     let told = after(s, t);
-    print_rows(writer, head)?;
+    print_rows(writer, t.head)?;
     print_desks(writer, told)?;
-    print_answer(writer, answer, output, spans)?;
+    print_answer(writer, t.answer, output, spans)?;
     Ok(told)
 }
 
@@ -362,14 +301,12 @@ fn fill(
     spans: &mut [[u64; 4]; 2048],
 ) -> State {
     let mut state = s;
-    let mut left = count;
-    while 1 < left {
+    for _ in 1..count {
         let place = state.head.rows as usize;
         let t = insert_lent(
             place, file, state, table, files, pages, marks, output, spans,
         );
         state = after(state, t);
-        left -= 1;
     }
     state
 }
@@ -390,12 +327,13 @@ fn insertion(
     if filling {
         let filled = fill(number, file, s, table, files, pages, marks, output, spans);
         let place = filled.head.rows as usize;
-        return insert_lent(
+        insert_lent(
             place, file, filled, table, files, pages, marks, output, spans,
-        );
+        )
+    } else {
+        let place = number as usize;
+        insert_lent(place, file, s, table, files, pages, marks, output, spans)
     }
-    let place = number as usize;
-    insert_lent(place, file, s, table, files, pages, marks, output, spans)
 }
 
 fn insertion_at<W: Write>(
@@ -412,7 +350,7 @@ fn insertion_at<W: Write>(
     spans: &mut [[u64; 4]; 2048],
 ) -> io::Result<Turn> {
     let mut file = [0u8; 8192];
-    let at = behind(input, from, 32);
+    let at = behind(input, from, b' ');
     let number = number_at(input, at);
     let read = file_at(input, at, &mut file);
     let n = test_lines::count(read.line, &file);
@@ -428,7 +366,10 @@ fn insertion_at<W: Write>(
         output,
         spans,
     );
-    Ok(turned(tell(writer, s, t, output, spans)?, read.next))
+    Ok(Turn {
+        state: tell(writer, s, t, output, spans)?,
+        next: read.next,
+    })
 }
 
 // ---- removals
@@ -443,11 +384,8 @@ fn remove_row(
     output: &mut [u8; 32768],
     spans: &mut [[u64; 4]; 2048],
 ) -> DeskStep {
-    let h = s.head;
-    let b = s.bounds;
-    let d = s.desks;
     remove(
-        s.desk, d, place, b, h, table, files, pages, marks, output, spans,
+        s.desk, s.desks, place, s.bounds, s.head, table, files, pages, marks, output, spans,
     )
 }
 
@@ -462,11 +400,9 @@ fn empty(
     spans: &mut [[u64; 4]; 2048],
 ) -> State {
     let mut state = s;
-    let mut left = state.head.rows;
-    while 1 < left {
+    for _ in 1..s.head.rows {
         let t = remove_row(0, state, table, files, pages, marks, output, spans);
         state = after(state, t);
-        left -= 1;
     }
     state
 }
@@ -484,9 +420,10 @@ fn removal(
 ) -> DeskStep {
     if emptying {
         let emptied = empty(s, table, files, pages, marks, output, spans);
-        return remove_row(0, emptied, table, files, pages, marks, output, spans);
+        remove_row(0, emptied, table, files, pages, marks, output, spans)
+    } else {
+        remove_row(place, s, table, files, pages, marks, output, spans)
     }
-    remove_row(place, s, table, files, pages, marks, output, spans)
 }
 
 fn removal_at<W: Write>(
@@ -502,14 +439,17 @@ fn removal_at<W: Write>(
     output: &mut [u8; 32768],
     spans: &mut [[u64; 4]; 2048],
 ) -> io::Result<Turn> {
-    let next = behind(input, from, 10);
-    let at = behind(input, from, 32);
+    let next = behind(input, from, b'\n');
+    let at = behind(input, from, b' ');
     let number = number_at(input, at);
     let place = number.value as usize;
     let t = removal(
         emptying, place, s, table, files, pages, marks, output, spans,
     );
-    Ok(turned(tell(writer, s, t, output, spans)?, next))
+    Ok(Turn {
+        state: tell(writer, s, t, output, spans)?,
+        next,
+    })
 }
 
 // ---- calls on one file
@@ -530,8 +470,6 @@ fn call_lent(
     output: &mut [u8; 32768],
     spans: &mut [[u64; 4]; 2048],
 ) -> DeskAnswer {
-    let b = s.bounds;
-    let d = s.desks;
     let mut nodes = [[0u32; 8]; 4096];
     let mut edges = [0u32; 16384];
     let mut choices = [0u32; 16384];
@@ -549,10 +487,10 @@ fn call_lent(
     let mut depth = [0usize; 64];
     render_for(
         s.desk,
-        d,
+        s.desks,
         file,
         options,
-        b,
+        s.bounds,
         &mut nodes,
         &mut edges,
         &mut choices,
@@ -580,11 +518,12 @@ fn tell_call<W: Write>(
     output: &[u8],
     spans: &[[u64; 4]],
 ) -> io::Result<State> {
-    let answer = r.answer;
-    let d = r.desks;
-    let told = with_desks(s, d);
+    let told = State {
+        desks: r.desks,
+        ..s
+    };
     print_desks(writer, told)?;
-    print_answer(writer, answer, output, spans)?;
+    print_answer(writer, r.answer, output, spans)?;
     Ok(told)
 }
 
@@ -603,7 +542,10 @@ fn call_at<W: Write>(
     let read = file_at(input, at, &mut file);
     let n = test_lines::count(read.line, &file);
     let r = call_lent(&file[..n], options_of(w, rule.value), s, output, spans);
-    Ok(turned(tell_call(writer, s, r, output, spans)?, read.next))
+    Ok(Turn {
+        state: tell_call(writer, s, r, output, spans)?,
+        next: read.next,
+    })
 }
 
 // ---- batches
@@ -621,25 +563,23 @@ fn gather(input: &[u8], from: usize, files: &mut [u8], lengths: &mut [u32]) -> G
 {
     let mut at = from;
     let mut bytes: usize = 0;
-    let mut k: usize = 0;
-    while k < lengths.len() {
+    for (documents, one) in lengths.iter_mut().enumerate() {
         if letter_at(input, at, 0) != b'f' {
             return Gathered {
-                documents: k,
-                bytes: bytes,
+                documents,
+                bytes,
                 next: at,
             };
         }
         let read = file_at(input, at, &mut files[bytes..]);
         let n = test_lines::count(read.line, &files[bytes..]);
-        lengths[k] = small(n as u64);
+        *one = small(n as u64);
         bytes += n;
         at = read.next;
-        k += 1;
     }
     Gathered {
-        documents: k,
-        bytes: bytes,
+        documents: lengths.len(),
+        bytes,
         next: at,
     }
 }
@@ -653,10 +593,10 @@ fn batch_lent(
     spans: &mut [[u64; 4]; 2048],
     answers: &mut [[u64; 26]],
 ) -> FiledAll {
-    let b = s.bounds;
-    let d = s.desks;
-    let k = counts_of([1, 2, 3, 4, 5, 6, 7, 8, 9, 10]);
-    let shared = SharedRecord { stats: k, desks: d };
+    let shared = SharedRecord {
+        stats: counts_of([1, 2, 3, 4, 5, 6, 7, 8, 9, 10]),
+        desks: s.desks,
+    };
     let mut nodes = [[0u32; 8]; 4096];
     let mut edges = [0u32; 16384];
     let mut choices = [0u32; 16384];
@@ -678,7 +618,7 @@ fn batch_lent(
         files,
         lengths,
         options,
-        b,
+        s.bounds,
         &mut nodes,
         &mut edges,
         &mut choices,
@@ -700,20 +640,6 @@ fn batch_lent(
     )
 }
 
-// The place so many items further, in memory of a length.
-fn further(at: usize, count: u64, length: usize) -> usize
-    ensures { result ≤ length }
-{
-    let n = count as usize;
-    if length <= at {
-        return length;
-    }
-    if length - at < n {
-        return length;
-    }
-    at + n
-}
-
 fn print_tried<W: Write>(
     writer: &mut W,
     tried: usize,
@@ -723,16 +649,10 @@ fn print_tried<W: Write>(
 ) -> io::Result<()> {
     let mut at: usize = 0;
     let mut mark: usize = 0;
-    let mut i: usize = 0;
-    while i < answers.len() {
-        if tried <= i {
-            return Ok(());
-        }
-        let row = answers[i];
-        print_row(writer, row, &output[at..], &spans[mark..])?;
-        at = further(at, row[2], output.len());
-        mark = further(mark, row[3], spans.len());
-        i += 1;
+    for row in answers.iter().take(tried) {
+        print_row(writer, *row, &output[at..], &spans[mark..])?;
+        at = at.saturating_add(row[2] as usize).min(output.len());
+        mark = mark.saturating_add(row[3] as usize).min(spans.len());
     }
     Ok(())
 }
@@ -745,45 +665,17 @@ fn tell_batch<W: Write>(
     output: &[u8],
     spans: &[[u64; 4]],
 ) -> io::Result<State> {
-    let number = [r.number as u64];
-    let used = [r.bytes as u64, r.spans as u64];
-    let shared = r.shared;
-    let k = shared.stats;
-    let d = shared.desks;
-    let counts = counts_words(k);
-    let told = with_desks(s, d);
-    print_numbers(writer, b"batch", &number)?;
+    let told = State {
+        desks: r.shared.desks,
+        ..s
+    };
+    writeln!(writer, "batch {}", r.number)?;
     print_tried(writer, r.tried, answers, output, spans)?;
-    print_numbers(writer, b"used", &used)?;
-    print_numbers(writer, b"record", &counts)?;
+    writeln!(writer, "used {} {}", r.bytes, r.spans)?;
+    print_numbers(writer, b"record", &counts_words(r.shared.stats))?;
     print_desks(writer, told)?;
     writer.write_all(b"\n")?;
     Ok(told)
-}
-
-// A batch in rows of answers that it is lent, told.
-fn batch_told<W: Write>(
-    writer: &mut W,
-    files: &[u8],
-    lengths: &[u32],
-    options: RenderOptions,
-    s: State,
-    output: &mut [u8; 32768],
-    spans: &mut [[u64; 4]; 2048],
-    answers: &mut [[u64; 26]],
-) -> io::Result<State> {
-    let r = batch_lent(files, lengths, options, s, output, spans, answers);
-    tell_batch(writer, s, r, answers, output, spans)
-}
-
-// At most 64 rows of answers.
-fn rows_of(rows: u64) -> usize
-    ensures { result ≤ 64 }
-{
-    if rows <= 64 {
-        return rows as usize;
-    }
-    64
 }
 
 fn batch_at<W: Write>(
@@ -800,55 +692,26 @@ fn batch_at<W: Write>(
     let mut w = [0u64; 5];
     let g = gather(input, from, &mut files, &mut lengths);
     let next = numbers_at(input, g.next, &mut w);
-    let bytes = g.bytes;
-    let documents = g.documents;
-    let rows = rows_of(w[4]);
-    let told = batch_told(
-        writer,
-        &files[..bytes],
-        &lengths[..documents],
+    // At most 64 rows of answers.
+    let rows = w[4].min(64) as usize;
+    let r = batch_lent(
+        &files[..g.bytes],
+        &lengths[..g.documents],
         options_of([w[0], w[1], w[2]], w[3]),
         s,
         output,
         spans,
         &mut answers[..rows],
-    )?;
-    Ok(turned(told, next))
+    );
+    Ok(Turn {
+        state: tell_batch(writer, s, r, &answers[..rows], output, spans)?,
+        next,
+    })
 }
 
 // ---- all lines
 
-// 1 `insert`, 2 `fill`, 3 `remove`, 4 `empty`, 5 `word`, 6 `call` (not `case`), 7 `file` or `batch`, by the first letter, the third and the fourth; 0 any other line.
-fn sort(c: u8, e: u8, g: u8) -> u8 {
-    if c == b'i' {
-        return 1;
-    }
-    if c == b'f' {
-        if g == b'e' {
-            return 7;
-        }
-        return 2;
-    }
-    if c == b'r' {
-        return 3;
-    }
-    if c == b'e' {
-        return 4;
-    }
-    if c == b'w' {
-        return 5;
-    }
-    if c == b'c' {
-        if e == b'l' {
-            return 6;
-        }
-    }
-    if c == b'b' {
-        return 7;
-    }
-    0
-}
-
+// `insert`, `fill`, `remove`, `empty`, `word`, `call` (not `case`), `file` or `batch`, by the first letter, the third and the fourth; any other line is a setting or handed on.
 fn line_at<W: Write>(
     writer: &mut W,
     input: &[u8],
@@ -863,63 +726,48 @@ fn line_at<W: Write>(
 ) -> io::Result<Turn> {
     let c = letter_at(input, from, 0);
     let e = letter_at(input, from, 2);
-    let k = sort(c, e, letter_at(input, from, 3));
-    if k == 0 {
-        return setting_at(writer, input, from, c, e, s);
+    let g = letter_at(input, from, 3);
+    match c {
+        b'i' => insertion_at(
+            writer, input, from, false, s, table, files, pages, marks, output, spans,
+        ),
+        b'f' if g != b'e' => insertion_at(
+            writer, input, from, true, s, table, files, pages, marks, output, spans,
+        ),
+        b'r' => removal_at(
+            writer, input, from, false, s, table, files, pages, marks, output, spans,
+        ),
+        b'e' => removal_at(
+            writer, input, from, true, s, table, files, pages, marks, output, spans,
+        ),
+        b'w' => Ok(Turn {
+            state: s,
+            next: word_at(input, from, table),
+        }),
+        b'c' if e == b'l' => call_at(writer, input, from, s, output, spans),
+        b'f' | b'b' => batch_at(writer, input, from, s, output, spans),
+        _ => setting_at(writer, input, from, c, e, s),
     }
-    if k == 5 {
-        return Ok(turned(s, word_at(input, from, table)));
-    }
-    if k == 6 {
-        return call_at(writer, input, from, s, output, spans);
-    }
-    if k == 7 {
-        return batch_at(writer, input, from, s, output, spans);
-    }
-    if 2 < k {
-        return removal_at(
-            writer,
-            input,
-            from,
-            k == 4,
-            s,
-            table,
-            files,
-            pages,
-            marks,
-            output,
-            spans,
-        );
-    }
-    insertion_at(
-        writer,
-        input,
-        from,
-        k == 2,
-        s,
-        table,
-        files,
-        pages,
-        marks,
-        output,
-        spans,
-    )
 }
 
 // No report, no sizes; desk 0, which may do anything.
 fn begun() -> State {
-    let h = Head {
-        rows: 0,
-        width: 0,
-        newline_cost: 0,
-        policy: 0,
-        rule: 0,
-    };
-    let d = Desks {
-        allowance: [18446744073709551615u64; 8],
-        spent: [0u64; 8],
-    };
-    held(h, bounds_of([0u64; 9], [0u64; 2]), 0, d, false)
+    State {
+        head: Head {
+            rows: 0,
+            width: 0,
+            newline_cost: 0,
+            policy: 0,
+            rule: 0,
+        },
+        bounds: bounds_of([0u64; 9], [0u64; 2]),
+        desk: 0,
+        desks: Desks {
+            allowance: [u64::MAX; 8],
+            spent: [0u64; 8],
+        },
+        told: false,
+    }
 }
 
 fn all<W: Write>(writer: &mut W, input: &[u8]) -> io::Result<()> {
@@ -931,10 +779,9 @@ fn all<W: Write>(writer: &mut W, input: &[u8]) -> io::Result<()> {
     let mut spans = [[0u64; 4]; 2048];
     let mut s = begun();
     let mut at: usize = 0;
-    let mut k: usize = 0;
-    while k < 4096 {
+    for _ in 0..4096 {
         if input.len() <= at {
-            return Ok(());
+            break;
         }
         let turn = line_at(
             writer,
@@ -950,7 +797,6 @@ fn all<W: Write>(writer: &mut W, input: &[u8]) -> io::Result<()> {
         )?;
         s = turn.state;
         at = turn.next;
-        k += 1;
     }
     Ok(())
 }

@@ -2,217 +2,121 @@
 #![tactic(auto)]
 
 use file_tables::{NodeId, TextId};
-use prepare::write::{FileCounts, Outcome, write};
+use prepare::write::{FileCounts, Unwritten, write};
 use std::io;
 use std::io::Write;
-use streams::print_decimal;
 
-fn say<W: Write>(writer: &mut W, outcome: Outcome) -> io::Result<()> {
+const EMPTY: [u32; 8] = [0, 0, 0, 0, 0, 0, 0, 0];
+
+const SPACE: [u32; 3] = [1, 1, 0];
+
+fn say<W: Write>(writer: &mut W, outcome: Result<usize, Unwritten>) -> io::Result<()> {
     match outcome {
-        Outcome::Written(k) => {
-            writer.write_all(b"0 ")?;
-            print_decimal(writer, k as u64)?;
-            writer.write_all(b"\n")
-        }
-        Outcome::Refused(number, needed) => {
-            print_decimal(writer, number as u64)?;
-            writer.write_all(b" ")?;
-            print_decimal(writer, needed as u64)?;
-            writer.write_all(b"\n")
-        }
+        Ok(k) => writeln!(writer, "0 {k}"),
+        Err(Unwritten { number, needed }) => writeln!(writer, "{number} {needed}"),
     }
 }
 
 fn counts(nodes: u32, choices: u32, texts: u32, root: u32) -> FileCounts {
-    let r = NodeId(root);
-    let s = TextId(0);
     FileCounts {
-        nodes: nodes,
+        nodes,
         edges: 0,
-        choices: choices,
-        texts: texts,
+        choices,
+        texts,
         annotations: 0,
-        root: r,
-        space: s,
+        root: NodeId(root),
+        space: TextId(0),
     }
 }
 
 // One node, one text of at most one byte, no edges, one choice edge where choices is 1.
-fn one<W: Write>(
-    writer: &mut W,
-    n: FileCounts,
+#[derive(Clone, Copy)]
+struct Case {
+    counts: FileCounts,
     node: [u32; 8],
     text: [u32; 3],
     byte: u8,
-) -> io::Result<()> {
-    let nodes = [node; 1];
-    let texts = [text; 1];
-    let bytes = [byte; 1];
+}
+
+fn tables(counts: FileCounts, node: [u32; 8], text: [u32; 3], byte: u8) -> Case {
+    Case {
+        counts,
+        node,
+        text,
+        byte,
+    }
+}
+
+// A node with counts and text that are right.
+fn node(node: [u32; 8]) -> Case {
+    tables(counts(1, 0, 1, 0), node, SPACE, 32)
+}
+
+fn say_all<W: Write>(writer: &mut W, cases: &[Case]) -> io::Result<()> {
     let numbers = [0u32; 1];
-    let mut out = [0u8; 64];
-    say(
-        writer,
-        write(n, &nodes, &numbers, &numbers, &texts, &bytes, &mut out),
-    )
+    for case in cases {
+        let mut out = [0u8; 64];
+        say(
+            writer,
+            write(
+                case.counts,
+                &[case.node],
+                &numbers,
+                &numbers,
+                &[case.text],
+                &[case.byte],
+                &mut out,
+            ),
+        )?;
+    }
+    Ok(())
 }
 
 // Rows and texts that are right or have a word that no field can carry.
 fn forms<W: Write>(writer: &mut W) -> io::Result<()> {
-    let space = [1u32, 1, 0];
-    one(
-        writer,
-        counts(1, 0, 1, 0),
-        [0, 0, 0, 0, 0, 0, 0, 0],
-        space,
-        32,
-    )?;
-    one(
-        writer,
-        counts(1, 0, 1, 0),
-        [12, 0, 0, 0, 0, 0, 0, 0],
-        space,
-        32,
-    )?;
-    one(
-        writer,
-        counts(1, 0, 1, 0),
-        [0, 1, 0, 0, 0, 0, 0, 0],
-        space,
-        32,
-    )?;
-    one(
-        writer,
-        counts(1, 0, 1, 0),
-        [1, 0, 1, 0, 0, 0, 0, 0],
-        space,
-        32,
-    )?;
-    one(
-        writer,
-        counts(1, 0, 1, 0),
-        [0, 0, 0, 2, 0, 0, 0, 0],
-        space,
-        32,
-    )
-}
-
-fn more_forms<W: Write>(writer: &mut W) -> io::Result<()> {
-    let space = [1u32, 1, 0];
-    one(
-        writer,
-        counts(1, 0, 1, 0),
-        [256, 0, 0, 0, 0, 0, 0, 0],
-        space,
-        32,
-    )?;
-    one(
-        writer,
-        counts(1, 0, 1, 0),
-        [0, 0, 0, 0, 1, 0, 0, 0],
-        space,
-        32,
-    )?;
-    one(
-        writer,
-        counts(1, 0, 1, 0),
-        [9, 0, 0, 0, 0, 1, 0, 0],
-        space,
-        32,
-    )?;
-    one(
-        writer,
-        counts(1, 0, 1, 0),
-        [9, 0, 0, 0, 0, 0, 0, 1],
-        space,
-        32,
-    )?;
-    one(
-        writer,
-        counts(1, 0, 1, 0),
-        [0, 0, 0, 0, 0, 0, 0, 0],
-        [1, 1, 1],
-        32,
-    )?;
-    one(
-        writer,
-        counts(1, 0, 1, 0),
-        [0, 0, 0, 1, 0, 0, 0, 0],
-        space,
-        32,
-    )
+    let cases = [
+        node(EMPTY),
+        node([12, 0, 0, 0, 0, 0, 0, 0]),
+        node([0, 1, 0, 0, 0, 0, 0, 0]),
+        node([1, 0, 1, 0, 0, 0, 0, 0]),
+        node([0, 0, 0, 2, 0, 0, 0, 0]),
+        node([256, 0, 0, 0, 0, 0, 0, 0]),
+        node([0, 0, 0, 0, 1, 0, 0, 0]),
+        node([9, 0, 0, 0, 0, 1, 0, 0]),
+        node([9, 0, 0, 0, 0, 0, 0, 1]),
+        tables(counts(1, 0, 1, 0), EMPTY, [1, 1, 1], 32),
+        node([0, 0, 0, 1, 0, 0, 0, 0]),
+    ];
+    say_all(writer, &cases)
 }
 
 // The order of the refusals: 1, the header's 4, 3, then 6 to 10.
 fn orders<W: Write>(writer: &mut W) -> io::Result<()> {
-    let space = [1u32, 1, 0];
-    one(
-        writer,
-        counts(2, 0, 1, 0),
-        [12, 0, 0, 0, 0, 0, 0, 0],
-        space,
-        32,
-    )?;
-    one(
-        writer,
-        counts(1, 0, 1, 0),
-        [12, 0, 0, 0, 0, 0, 0, 0],
-        [1, 2, 0],
-        32,
-    )?;
-    one(
-        writer,
-        counts(1, 0, 0, 0),
-        [12, 0, 0, 0, 0, 0, 0, 0],
-        space,
-        32,
-    )?;
-    one(
-        writer,
-        counts(0, 0, 1, 0),
-        [0, 0, 0, 0, 0, 0, 0, 0],
-        space,
-        32,
-    )?;
-    one(
-        writer,
-        counts(1, 0, 1, 1),
-        [0, 0, 0, 0, 0, 0, 0, 0],
-        space,
-        10,
-    )
+    let wrong = [12, 0, 0, 0, 0, 0, 0, 0];
+    let cases = [
+        tables(counts(2, 0, 1, 0), wrong, SPACE, 32),
+        tables(counts(1, 0, 1, 0), wrong, [1, 2, 0], 32),
+        tables(counts(1, 0, 0, 0), wrong, SPACE, 32),
+        tables(counts(0, 0, 1, 0), EMPTY, SPACE, 32),
+        tables(counts(1, 0, 1, 1), EMPTY, SPACE, 10),
+    ];
+    say_all(writer, &cases)
 }
 
 fn rules<W: Write>(writer: &mut W) -> io::Result<()> {
-    let space = [1u32, 1, 0];
-    one(
-        writer,
-        counts(1, 0, 1, 0),
-        [0, 0, 0, 0, 0, 0, 0, 0],
-        space,
-        10,
-    )?;
-    one(
-        writer,
-        counts(1, 0, 1, 0),
-        [0, 0, 0, 0, 0, 0, 0, 0],
-        [2, 1, 0],
-        32,
-    )?;
-    one(
-        writer,
-        counts(1, 0, 1, 0),
-        [5, 0, 0, 0, 0, 0, 0, 0],
-        space,
-        32,
-    )
+    let cases = [
+        tables(counts(1, 0, 1, 0), EMPTY, SPACE, 10),
+        tables(counts(1, 0, 1, 0), EMPTY, [2, 1, 0], 32),
+        node([5, 0, 0, 0, 0, 0, 0, 0]),
+    ];
+    say_all(writer, &cases)
 }
 
 // A choice list that is not the two of its Choice, and one that is.
 fn lists<W: Write>(writer: &mut W) -> io::Result<()> {
-    let empty = [0u32; 8];
     let choice = [9u32, 1, 2, 0, 0, 0, 2, 0];
-    let nodes = [choice, empty, empty];
-    let texts = [[1u32, 1, 0]; 1];
+    let nodes = [choice, EMPTY, EMPTY];
+    let texts = [SPACE];
     let bytes = [32u8; 1];
     let numbers = [0u32; 1];
     let wrong = [1u32, 1];
@@ -246,9 +150,8 @@ fn lists<W: Write>(writer: &mut W) -> io::Result<()> {
 
 // 4,097 nodes are 4 where they are lent, and 1 where they are not.
 fn limits<W: Write>(writer: &mut W) -> io::Result<()> {
-    let node = [0u32; 8];
-    let nodes = [node; 4097];
-    let texts = [[1u32, 1, 0]; 1];
+    let nodes = [EMPTY; 4097];
+    let texts = [SPACE];
     let bytes = [32u8; 1];
     let numbers = [0u32; 1];
     let mut out = [0u8; 64];
@@ -280,7 +183,7 @@ fn limits<W: Write>(writer: &mut W) -> io::Result<()> {
 
 // A text total of 65,537 is 4, after a node's 3; where the bytes are not lent it is 1.
 fn totals<W: Write>(writer: &mut W) -> io::Result<()> {
-    let good = [[0u32, 0, 0, 0, 0, 0, 0, 0]; 1];
+    let good = [EMPTY];
     let bad = [[12u32, 0, 0, 0, 0, 0, 0, 0]; 1];
     let texts = [[1u32, 65537, 0]; 1];
     let bytes = [97u8; 65537];
@@ -324,22 +227,15 @@ fn totals<W: Write>(writer: &mut W) -> io::Result<()> {
     )
 }
 
-fn byte<W: Write>(writer: &mut W, b: u8) -> io::Result<()> {
-    print_decimal(writer, b as u64)
-}
-
 // The first byte and the one past the file.
 fn ends<W: Write>(writer: &mut W, out: &[u8; 22]) -> io::Result<()> {
-    byte(writer, out[0])?;
-    writer.write_all(b" ")?;
-    byte(writer, out[21])?;
-    writer.write_all(b"\n")
+    writeln!(writer, "{} {}", out[0], out[21])
 }
 
 // Room for all but one byte: nothing is altered.
 fn short<W: Write>(writer: &mut W) -> io::Result<()> {
-    let nodes = [[0u32, 0, 0, 0, 0, 0, 0, 0]; 1];
-    let texts = [[1u32, 1, 0]; 1];
+    let nodes = [EMPTY];
+    let texts = [SPACE];
     let bytes = [32u8; 1];
     let numbers = [0u32; 1];
     let mut out = [7u8; 22];
@@ -360,8 +256,8 @@ fn short<W: Write>(writer: &mut W) -> io::Result<()> {
 
 // Room for all and one byte more, which stays. Where the space text is no text, all stay.
 fn enough<W: Write>(writer: &mut W, space: u8) -> io::Result<()> {
-    let nodes = [[0u32, 0, 0, 0, 0, 0, 0, 0]; 1];
-    let texts = [[1u32, 1, 0]; 1];
+    let nodes = [EMPTY];
+    let texts = [SPACE];
     let bytes = [space; 1];
     let numbers = [0u32; 1];
     let mut out = [7u8; 22];
@@ -383,7 +279,6 @@ fn enough<W: Write>(writer: &mut W, space: u8) -> io::Result<()> {
 fn main(rt: HostRuntime) -> io::Result<()> {
     let writer = &mut rt.stdout();
     forms(writer)?;
-    more_forms(writer)?;
     orders(writer)?;
     rules(writer)?;
     lists(writer)?;

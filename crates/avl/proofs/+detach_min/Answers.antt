@@ -25,13 +25,13 @@ detach_min-d-requires t c =
     let q = the_o c.requires in
     (subst (λ z. high c.args.frontier.now c.get-left.result < z) c.decreases (out.falls q c.get-left.ensures), out.full_l q c.get-left.ensures c.if-left.false)
 
-pub graft_left-top-requires : goal.graft_left-top-requires
-graft_left-top-requires t c =
+pub graft_left-requires : goal.graft_left-requires
+graft_left-requires t c =
     let q = the_o c.requires in
     out.graft q (out.l_has q c.get-left.ensures c.if-left.false) (c.detach_min-d.ensures (out.full_l q c.get-left.ensures c.if-left.false))
 
 pub returns : goal.returns
-returns t c = form_o (λ t lo hi. Cut c.args.frontier.now c.graft_left-top.new.frontier c.graft_left-top.result c.detach_min-d.result.least t lo hi) λ q.
+returns t c = form_o (λ t lo hi. Cut c.args.frontier.now c.graft_left.new.frontier c.graft_left.result c.detach_min-d.result.slot t lo hi) λ q.
     let h = out.l_has q c.get-left.ensures c.if-left.false in
     let u = c.detach_min-d.ensures (out.full_l q c.get-left.ensures c.if-left.false) in
-    out.done q h u (c.graft_left-top.ensures (out.graft q h u))
+    out.done q h u (c.graft_left.ensures (out.graft q h u))

@@ -33,42 +33,42 @@ remove-d-requires t c =
     let q = the_d c.requires in
     (subst (λ z. high c.args.frontier.now c.get-l.result < z) c.decreases (d_falls_l q c.get-l.ensures), has_l q c.get-l.ensures (lt q c.get-here.ensures c.if-column-here.true))
 
-pub graft_left-top-requires : goal.graft_left-top-requires
-graft_left-top-requires t c =
+pub graft_left-requires : goal.graft_left-requires
+graft_left-requires t c =
     let q = the_d c.requires in
     d_graft_l q (c.remove-d.ensures (has_l q c.get-l.ensures (lt q c.get-here.ensures c.if-column-here.true)))
 
 pub returns-then-column-here : goal.returns-then-column-here
-returns-then-column-here t c = form_d (λ t lo hi. Gone c.args.frontier.now c.graft_left-top.new.frontier c.graft_left-top.result c.remove-d.result.slot c.args.column t lo hi) λ q.
+returns-then-column-here t c = form_d (λ t lo hi. Gone c.args.frontier.now c.graft_left.new.frontier c.graft_left.result c.remove-d.result.slot c.args.column t lo hi) λ q.
     let h = lt q c.get-here.ensures c.if-column-here.true in
     let u = c.remove-d.ensures (has_l q c.get-l.ensures h) in
-    d_done_l q h u (c.graft_left-top.ensures (d_graft_l q u))
+    d_done_l q h u (c.graft_left.ensures (d_graft_l q u))
 
 pub remove-d-requires-then-here-column : goal.remove-d-requires-then-here-column
 remove-d-requires-then-here-column t c =
     let q = the_d c.requires in
     (subst (λ z. high c.args.frontier.now c.get-r.result < z) c.decreases (d_falls_r q c.get-r.ensures), has_r q c.get-r.ensures (gt q c.get-here.ensures c.if-here-column.true))
 
-pub graft_right-top-requires : goal.graft_right-top-requires
-graft_right-top-requires t c =
+pub graft_right-requires : goal.graft_right-requires
+graft_right-requires t c =
     let q = the_d c.requires in
     d_graft_r q (c.remove-d-then-here-column.ensures (has_r q c.get-r.ensures (gt q c.get-here.ensures c.if-here-column.true)))
 
 pub returns-then-here-column : goal.returns-then-here-column
-returns-then-here-column t c = form_d (λ t lo hi. Gone c.args.frontier.now c.graft_right-top.new.frontier c.graft_right-top.result c.remove-d-then-here-column.result.slot c.args.column t lo hi) λ q.
+returns-then-here-column t c = form_d (λ t lo hi. Gone c.args.frontier.now c.graft_right.new.frontier c.graft_right.result c.remove-d-then-here-column.result.slot c.args.column t lo hi) λ q.
     let h = gt q c.get-here.ensures c.if-here-column.true in
     let u = c.remove-d-then-here-column.ensures (has_r q c.get-r.ensures h) in
-    d_done_r q h u (c.graft_right-top.ensures (d_graft_r q u))
+    d_done_r q h u (c.graft_right.ensures (d_graft_r q u))
 
 pub clear-requires : goal.clear-requires
 clear-requires t c = (the_d c.requires).held.at
 
-pub unite-top-requires : goal.unite-top-requires
-unite-top-requires t c =
+pub unite-requires : goal.unite-requires
+unite-requires t c =
     let q = the_d c.requires in
     pair q c.get-l.ensures c.get-r.ensures (frame_cleared c.args.root q.j q.held.key_is c.clear.ensures)
 
-pub returns : goal.returns
-returns t c = form_d (λ t lo hi. Gone c.args.frontier.now c.unite-top.new.frontier c.unite-top.result c.args.root c.args.column t lo hi) λ q.
+pub returns-else-here-column : goal.returns-else-here-column
+returns-else-here-column t c = form_d (λ t lo hi. Gone c.args.frontier.now c.unite.new.frontier c.unite.result c.args.root c.args.column t lo hi) λ q.
     let f = frame_cleared c.args.root q.j q.held.key_is c.clear.ensures in
-    d_here q (eq q c.get-here.ensures c.if-column-here.false c.if-here-column.false) f (c.unite-top.ensures (pair q c.get-l.ensures c.get-r.ensures f))
+    d_here q (eq q c.get-here.ensures c.if-column-here.false c.if-here-column.false) f (c.unite.ensures (pair q c.get-l.ensures c.get-r.ensures f))

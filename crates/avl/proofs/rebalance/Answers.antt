@@ -99,8 +99,8 @@ returns-then-balance-ltminus1 c = λ p.
     rw (bal_r p.l c.args.s p.k p.r n g)
     (after p (c.update_height.ensures p).frame (then (c.tilt_right.ensures (spot_r q g)).frame (c.rotate_left.ensures (tilted-r q g (c.tilt_right.ensures (spot_r q g))))))
 
-pub returns : goal.returns
-returns c = λ p.
+pub returns-else-balance-ltminus1 : goal.returns-else-balance-ltminus1
+returns-else-balance-ltminus1 c = λ p.
     let u = c.update_height.ensures p in
     let q = again p u in
     let h = heights {l = q.l} {r = q.r} (c.high_left-l.ensures q) (c.high_right-r.ensures q) in

@@ -15,27 +15,27 @@ child p e a-is b-is h =
     let q = spot_r p e in
     record { l = q.l; k = q.k; r = q.r; lo = q.lo; hi = q.hi; held = q.held; has = omega arith }
 
-pub high_left-a-requires : goal.high_left-a-requires
-high_left-a-requires c = spot_r (the_r c.requires) c.get-x.ensures
+pub high_left-requires : goal.high_left-requires
+high_left-requires c = spot_r (the_r c.requires) c.get-x.ensures
 
-pub high_right-b-requires : goal.high_right-b-requires
-high_right-b-requires c = spot_r (the_r c.requires) c.get-x.ensures
+pub high_right-requires : goal.high_right-requires
+high_right-requires c = spot_r (the_r c.requires) c.get-x.ensures
 
 pub rotate_right-t-requires : goal.rotate_right-t-requires
 rotate_right-t-requires c =
     let p = the_r c.requires in
-    child p c.get-x.ensures (c.high_left-a.ensures (spot_r p c.get-x.ensures)).0 (c.high_right-b.ensures (spot_r p c.get-x.ensures)).0 c.if-b-a.true
+    child p c.get-x.ensures (c.high_left.ensures (spot_r p c.get-x.ensures)).0 (c.high_right.ensures (spot_r p c.get-x.ensures)).0 c.if-high_right-high_left.true
 
-pub returns-then-b-a : goal.returns-then-b-a
-returns-then-b-a c = form_r (λ l k r lo hi. Laid c.args.frontier.now c.store.new.frontier c.args.s l k (tilt_r r) lo hi) λ p.
-    let a = (c.high_left-a.ensures (spot_r p c.get-x.ensures)).0 in
-    let b = (c.high_right-b.ensures (spot_r p c.get-x.ensures)).0 in
-    rw (lt-ltb (ht p.c) (ht p.b) (omega (arith, c.if-b-a.true, a, b)))
-    (relaid_r p c.get-x.ensures (c.rotate_right-t.ensures (child p c.get-x.ensures a b c.if-b-a.true)) c.store.ensures)
+pub returns-then-high_right-high_left : goal.returns-then-high_right-high_left
+returns-then-high_right-high_left c = form_r (λ l k r lo hi. Laid c.args.frontier.now c.store.new.frontier c.args.s l k (tilt_r r) lo hi) λ p.
+    let a = (c.high_left.ensures (spot_r p c.get-x.ensures)).0 in
+    let b = (c.high_right.ensures (spot_r p c.get-x.ensures)).0 in
+    rw (lt-ltb (ht p.c) (ht p.b) (omega (arith, c.if-high_right-high_left.true, a, b)))
+    (relaid_r p c.get-x.ensures (c.rotate_right-t.ensures (child p c.get-x.ensures a b c.if-high_right-high_left.true)) c.store.ensures)
 
-pub returns-else-b-a : goal.returns-else-b-a
-returns-else-b-a c = form_r (λ l k r lo hi. Laid c.args.frontier.now c.args.frontier.now c.args.s l k (tilt_r r) lo hi) λ p.
-    let a = (c.high_left-a.ensures (spot_r p c.get-x.ensures)).0 in
-    let b = (c.high_right-b.ensures (spot_r p c.get-x.ensures)).0 in
-    rw (le-ltb (ht p.c) (ht p.b) (omega (arith, c.if-b-a.false, a, b)))
+pub returns-else-high_right-high_left : goal.returns-else-high_right-high_left
+returns-else-high_right-high_left c = form_r (λ l k r lo hi. Laid c.args.frontier.now c.args.frontier.now c.args.s l k (tilt_r r) lo hi) λ p.
+    let a = (c.high_left.ensures (spot_r p c.get-x.ensures)).0 in
+    let b = (c.high_right.ensures (spot_r p c.get-x.ensures)).0 in
+    rw (le-ltb (ht p.c) (ht p.b) (omega (arith, c.if-high_right-high_left.false, a, b)))
     (laid_same p.held)

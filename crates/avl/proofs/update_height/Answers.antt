@@ -7,7 +7,7 @@ use Rattle.avl.proofs.Steps.{shut}
 use Rattle.avl.proofs.update_height.Goals as goal
 
 pub overflow_add-h : goal.overflow_add-h
-overflow_add-h c = let p = c.requires in omega (arith, c.larger-h.ensures, c.high_left-a.ensures p, c.high_right-b.ensures p)
+overflow_add-h c = let p = c.requires in omega (arith, c.larger-h.ensures, c.high_left.ensures p, c.high_right.ensures p)
 
 pub returns : goal.returns
-returns c = λ p. shut p.held (add-one _ ∙ ap suc (c.larger-h.ensures ∙ ap₂ max (c.high_left-a.ensures p).0 (c.high_right-b.ensures p).0)) c.store.ensures
+returns c = λ p. shut p.held (add-one _ ∙ ap suc (c.larger-h.ensures ∙ ap₂ max (c.high_left.ensures p).0 (c.high_right.ensures p).0)) c.store.ensures

@@ -8,5 +8,5 @@ returns-then-gate-ne0 c = shut c.batch_lent-lent.ensures c.desk_gate-gate.ensure
 pub returns-then-lengths-gt64 : goal.returns-then-lengths-gt64
 returns-then-lengths-gt64 c = past_most c.batch_lent-lent.ensures c.desk_gate-gate.ensures (omega (arith, c.if-gate-ne0.false)) c.if-lengths-gt64.true
 
-pub returns : goal.returns
-returns c = may_be_tried c.batch_lent-lent.ensures c.desk_gate-gate.ensures (omega (arith, c.if-gate-ne0.false)) (omega (arith, c.if-lengths-gt64.false))
+pub returns-else-lengths-gt64 : goal.returns-else-lengths-gt64
+returns-else-lengths-gt64 c = may_be_tried c.batch_lent-lent.ensures c.desk_gate-gate.ensures (omega (arith, c.if-gate-ne0.false)) (omega (arith, c.if-lengths-gt64.false))

@@ -9,4 +9,4 @@ pub returns-then-left-eq0 : goal.returns-then-left-eq0
 returns-then-left-eq0 c = begin_ill _ _ (omega arith) c.more-left.ensures c.if-left-eq0.true
 
 pub returns : goal.returns
-returns c = begin_first _ _ _ _ (omega arith) c.more-left.ensures c.if-left-eq0.false c.low-from.ensures c.high-to.ensures
+returns c = begin_first _ _ _ _ (omega arith) c.more-left.ensures c.if-left-eq0.false c.low.ensures c.high.ensures

@@ -1,10 +1,5 @@
-use Prim.Native.Nat.{◌-◌}
-use lib.ListN.{length}
 use Rattle.file_utf8.proofs.Laws.{So}
 use Rattle.file_utf8.proofs.well_formed.Given as goal
 
-abbrev pub invariant-loop-k : goal.invariant-loop-k
-invariant-loop-k l = So l.text l.w l.k
-
-abbrev pub decreases-loop-k : goal.decreases-loop-k
-decreases-loop-k l = length l.text - l.k
+abbrev pub invariant-loop-b : goal.invariant-loop-b
+invariant-loop-b l = So l.text l.w l.b-index

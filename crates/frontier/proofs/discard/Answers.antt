@@ -14,8 +14,8 @@ unlink_precedence-ends-requires c = within c.requires (c.remove-d.ensures (has c
 pub store-requires : goal.store-requires
 store-requires c = (at_len c.unlink_precedence-ends.auto.frontier (c.remove-d.ensures (has c.requires)).lone.at, lit< tt)
 
-pub overflow_sub-live : goal.overflow_sub-live
-overflow_sub-live c = omega (arith, live_is c.requires)
+pub overflow_sub-result : goal.overflow_sub-result
+overflow_sub-result c = omega (arith, live_is c.requires)
 
 pub returns : goal.returns
 returns c = λ p. dropped p (c.remove-d.ensures (has p)) (c.unlink_precedence-ends.ensures (within p (c.remove-d.ensures (has p)))) c.store.ensures

@@ -14,8 +14,8 @@ returns-then-size-b c =
     let e = as_told c.requires x (c.weigh.ensures c.requires.sound) c.in-Beside.is in
     refused c.requires x e.0 e.1 (omega arith)
 
-pub admit-after-requires : goal.admit-after-requires
-admit-after-requires c =
+pub admit-requires : goal.admit-requires
+admit-requires c =
     let x = carried c.args.candidate in
     let e = as_told c.requires x (c.weigh.ensures c.requires.sound) c.in-Beside.is in
     room c.requires x e.0 (as_it_is c.requires x e.0 e.1) (omega arith)
@@ -25,13 +25,13 @@ prune-left-requires c =
     let x = carried c.args.candidate in
     fresh c.requires x (as_told c.requires x (c.weigh.ensures c.requires.sound) c.in-Removing.is).0
 
-pub overflow_sub-removed : goal.overflow_sub-removed
-overflow_sub-removed c =
+pub overflow_sub-result : goal.overflow_sub-result
+overflow_sub-result c =
     let x = carried c.args.candidate in
     (c.prune-left.ensures (fresh c.requires x (as_told c.requires x (c.weigh.ensures c.requires.sound) c.in-Removing.is).0)).fewer
 
-pub admit-after-requires-in-Removing : goal.admit-after-requires-in-Removing
-admit-after-requires-in-Removing c =
+pub admit-requires-in-Removing : goal.admit-requires-in-Removing
+admit-requires-in-Removing c =
     let x = carried c.args.candidate in
     let e = as_told c.requires x (c.weigh.ensures c.requires.sound) c.in-Removing.is in
     let z = c.prune-left.ensures (fresh c.requires x e.0) in
@@ -47,11 +47,11 @@ returns-else-size-b c =
     let x = carried c.args.candidate in
     let e = as_told c.requires x (c.weigh.ensures c.requires.sound) c.in-Beside.is in
     let z = as_it_is c.requires x e.0 e.1 in
-    joined c.requires x e.0 z (c.admit-after.ensures (room c.requires x e.0 z (omega arith))) (omega arith)
+    joined c.requires x e.0 z (c.admit.ensures (room c.requires x e.0 z (omega arith))) (omega arith)
 
 pub returns-in-Removing : goal.returns-in-Removing
 returns-in-Removing c =
     let x = carried c.args.candidate in
     let e = as_told c.requires x (c.weigh.ensures c.requires.sound) c.in-Removing.is in
     let z = c.prune-left.ensures (fresh c.requires x e.0) in
-    joined c.requires x e.0 z (c.admit-after-in-Removing.ensures (room c.requires x e.0 z (few_left c.requires x e.0 z e.1))) refl
+    joined c.requires x e.0 z (c.admit-in-Removing.ensures (room c.requires x e.0 z (few_left c.requires x e.0 z e.1))) refl

@@ -6,8 +6,8 @@ use Rattle.frontier.proofs.take.Goals as goal
 pub returns-then-b-eq-NIL : goal.returns-then-b-eq-NIL
 returns-then-b-eq-NIL c = λ p. taken_new p c.if-b-eq-NIL.true
 
-pub get-free-requires : goal.get-free-requires
-get-free-requires c = ((fst c.requires c.if-b-eq-NIL.false).at, lit< tt)
+pub get-requires : goal.get-requires
+get-requires c = ((fst c.requires c.if-b-eq-NIL.false).at, lit< tt)
 
-pub returns : goal.returns
-returns c = λ p. taken_free p c.if-b-eq-NIL.false c.get-free.ensures
+pub returns-else-b-eq-NIL : goal.returns-else-b-eq-NIL
+returns-else-b-eq-NIL c = λ p. taken_free p c.if-b-eq-NIL.false c.get.ensures

@@ -21,8 +21,8 @@ returns-then-none_dearer c = λ p.
     let h = fresh_by p (c.covered.ensures (looked p e)) c.if-covered.false in
     (h.none, all_kept h e (sym c.none_dearer.ensures ∙ c.if-none_dearer.true))
 
-pub returns : goal.returns
-returns c = λ p.
+pub returns-else-none_dearer : goal.returns-else-none_dearer
+returns-else-none_dearer c = λ p.
     let e = c.search-way.ensures (whole p) in
     let h = fresh_by p (c.covered.ensures (looked p e)) c.if-covered.false in
     (h.none, fewer_kept h e (sym c.none_dearer.ensures ∙ c.if-none_dearer.false))

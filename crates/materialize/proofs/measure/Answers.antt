@@ -1,11 +1,12 @@
-use mathlib.Core.Path.{refl}
-use Prim.Native.Nat.{◌-◌, ◌<◌}
+use mathlib.Core.Path.{◌≡◌, refl}
+use Prim.Native.Nat.{◌-◌, ◌<◌, max}
 use native.Mathlib.Omega.{arith}
+use borrow.Author.Rules.{rules}
 use lib.ListN.{length}
 use Rattle.materialize.specs.Walks.{plan}
 use Rattle.materialize.proofs.Turns.{spent}
 use Rattle.materialize.proofs.Untested.{told_apart}
-use Rattle.materialize.proofs.Passes.{none_fits, sound_begin, along_begin, along_step, along_stop, along_end, reaching_begin, reaching_step, turned_went, turned_stopped, some_bytes, in_some, some_around}
+use Rattle.materialize.proofs.Passes.{err_is, none_fits, sound_begin, along_begin, along_step, along_stop, along_end, reaching_begin, reaching_step, turned_went, turned_stopped, some_bytes, in_some, some_around}
 use Rattle.materialize.proofs.measure.Goals as goal
 
 pub returns-then-capacity-eq0 : goal.returns-then-capacity-eq0
@@ -26,18 +27,15 @@ loop-w-init c =
       λ bytes ib. reaching_begin a.plans.now a.texts.now bytes a.root.0 a.visit.now h,
     )
 
-pub shape_of-visit-then-capacity-w : goal.shape_of-visit-then-capacity-w
-shape_of-visit-then-capacity-w c = omega arith
-
 pub returns-then-capacity-w : goal.returns-then-capacity-w
 returns-then-capacity-w c =
     let a = c.args in
     let l = c.loop-w in
-    λ bytes ib. along_stop a.capacity a.plans.now a.texts.now bytes a.root.0 _ l.w _ _ _ (λ o. l.invariant.2 o bytes ib)
+    λ bytes ib. along_stop a.capacity a.plans.now a.texts.now bytes a.root.0 _ l.w _ (λ o. l.invariant.2 o bytes ib)
     (λ o. spent a.capacity o a.plans.now a.texts.now bytes l.visit l.w (l.w.top - 1) (omega (arith, c.loop-w-test.true)) c.if-capacity-w.true)
 
-pub visit_item-s-requires : goal.visit_item-s-requires
-visit_item-s-requires c = (
+pub visit_item-requires : goal.visit_item-requires
+visit_item-requires c = (
   record {
     some_left = c.loop-w-test.true;
     visit_lent = omega (arith, c.requires.0, c.loop-w.invariant.0);
@@ -50,19 +48,16 @@ visit_item-s-requires c = (
   λ e. told_apart e,
 )
 
-pub shape_of-visit-in-Stopped : goal.shape_of-visit-in-Stopped
-shape_of-visit-in-Stopped c = omega (arith, c.loop-w.invariant.0, c.visit_item-s.auto)
-
-pub returns-in-Stopped : goal.returns-in-Stopped
-returns-in-Stopped c =
+pub returns-in_err-z : goal.returns-in_err-z
+returns-in_err-z c =
     let a = c.args in
     let P = a.plans.now in
     let X = a.texts.now in
     let l = c.loop-w in
-    let r = c.visit_item-s.result in
-    let x = c.visit_item-s.new.visit in
-    λ bytes ib. along_stop a.capacity P X bytes a.root.0 _ l.w _ _ _ (λ o. l.invariant.2 o bytes ib)
-    (λ o. turned_stopped a.capacity o P X bytes l.visit x l.w _ _ _ r (c.visit_item-s.ensures o bytes ib) c.in-Stopped.is)
+    let r = c.visit_item.result in
+    let x = c.visit_item.new.visit in
+    λ bytes ib. rw (err_is c.from_residual.ensures.1) (along_stop a.capacity P X bytes a.root.0 _ l.w _ (λ o. l.invariant.2 o bytes ib)
+    (λ o. turned_stopped a.capacity o P X bytes l.visit x l.w _ r (c.visit_item.ensures o bytes ib) c.in_err-z.was))
 
 pub loop-w-smaller : goal.loop-w-smaller
 loop-w-smaller c =
@@ -70,9 +65,9 @@ loop-w-smaller c =
     let P = a.plans.now in
     let X = a.texts.now in
     let l = c.loop-w in
-    let r = c.visit_item-s.result in
-    let x = c.visit_item-s.new.visit in
-    let g = turned_went a.capacity some_around P X (some_bytes X) l.visit x l.w _ _ r (c.visit_item-s.ensures some_around (some_bytes X) (in_some X)) c.in-Went.is in
+    let r = c.visit_item.result in
+    let x = c.visit_item.new.visit in
+    let g = turned_went a.capacity some_around P X (some_bytes X) l.visit x l.w _ _ r (c.visit_item.ensures some_around (some_bytes X) (in_some X)) c.in_ok-z.was in
     omega (arith, g.moved.counted, g.sound.visits_le)
 
 pub loop-w-preserved : goal.loop-w-preserved
@@ -81,17 +76,16 @@ loop-w-preserved c =
     let P = a.plans.now in
     let X = a.texts.now in
     let l = c.loop-w in
-    let r = c.visit_item-s.result in
-    let x = c.visit_item-s.new.visit in
-    let g = turned_went a.capacity some_around P X (some_bytes X) l.visit x l.w _ _ r (c.visit_item-s.ensures some_around (some_bytes X) (in_some X)) c.in-Went.is in (
-      omega (arith, l.invariant.0, c.visit_item-s.auto),
+    let r = c.visit_item.result in
+    let x = c.visit_item.new.visit in
+    let i : c.max-highest.result ≡ max l.highest c.in_ok-z.z.top = search rules in
+    let j : c.max-deepest.result ≡ max l.deepest c.in_ok-z.z.depth = search rules in
+    let g = turned_went a.capacity some_around P X (some_bytes X) l.visit x l.w _ _ r (c.visit_item.ensures some_around (some_bytes X) (in_some X)) c.in_ok-z.was in (
+      omega (arith, l.invariant.0, c.visit_item.auto),
       g.sound,
-      λ o bytes ib. along_step (l.invariant.2 o bytes ib) (turned_went a.capacity o P X bytes l.visit x l.w _ _ r (c.visit_item-s.ensures o bytes ib) c.in-Went.is),
-      λ bytes ib. reaching_step (l.invariant.3 bytes ib) (turned_went a.capacity some_around P X bytes l.visit x l.w _ _ r (c.visit_item-s.ensures some_around bytes ib) c.in-Went.is) c.larger-highest.ensures c.larger-deepest.ensures,
+      λ o bytes ib. along_step (l.invariant.2 o bytes ib) (turned_went a.capacity o P X bytes l.visit x l.w _ _ r (c.visit_item.ensures o bytes ib) c.in_ok-z.was),
+      λ bytes ib. reaching_step (l.invariant.3 bytes ib) (turned_went a.capacity some_around P X bytes l.visit x l.w _ _ r (c.visit_item.ensures some_around bytes ib) c.in_ok-z.was) i j,
     )
-
-pub shape_of-visit : goal.shape_of-visit
-shape_of-visit c = omega arith
 
 pub returns : goal.returns
 returns c =

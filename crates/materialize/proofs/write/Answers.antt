@@ -57,18 +57,6 @@ loop-w-preserved c =
       rw c.mark_row.ensures (c.turn-s.ensures.writing _ _ _ _ (omega (arith, v.3, c.requires.0.spans_lent)) v.5),
     )
 
-pub shape_of-visit : goal.shape_of-visit
-shape_of-visit c = omega arith
-
-pub shape_of-depth : goal.shape_of-depth
-shape_of-depth c = c.loop-w.invariant.1
-
-pub shape_of-output : goal.shape_of-output
-shape_of-output c = c.loop-w.invariant.2
-
-pub shape_of-spans : goal.shape_of-spans
-shape_of-spans c = c.loop-w.invariant.3
-
 pub returns : goal.returns
 returns c =
     let pre = c.requires in

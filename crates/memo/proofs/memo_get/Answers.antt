@@ -1,7 +1,6 @@
-use Rattle.std.proofs.Common.{subst, arith}
+use Rattle.std.proofs.Common.{arith}
 use Rattle.memo.specs.Entries.{word, listed}
-use Rattle.memo.specs.Index.{Spotted}
-use Rattle.memo.proofs.Answers.{hitAt, get-taken, get-free, get-round}
+use Rattle.memo.proofs.Answers.{hitAt, get-taken, get-none}
 use Rattle.memo.proofs.memo_get.Goals as goal
 
 pub returns-then-count-eq0 : goal.returns-then-count-eq0
@@ -16,7 +15,4 @@ unfolding word
 returns-in-Taken c = get-taken c.args.index.now c.args.entries.now c.args.count c.args.key c.requires (hitAt c.args.index.now c.args.entries.now c.args.count c.args.key c.in-Taken.is c.find.ensures)
 
 pub returns-in-Free : goal.returns-in-Free
-returns-in-Free c = get-free c.args.index.now c.args.entries.now c.args.count c.args.key c.requires (subst (λ z. Spotted c.args.index.now c.args.entries.now c.args.count c.args.key z) c.in-Free.is c.find.ensures)
-
-pub returns-in-Nowhere : goal.returns-in-Nowhere
-returns-in-Nowhere c = get-round c.args.index.now c.args.entries.now c.args.count c.args.key c.requires (subst (λ z. Spotted c.args.index.now c.args.entries.now c.args.count c.args.key z) c.in-Nowhere.is c.find.ensures)
+returns-in-Free c = get-none c.args.index.now c.args.entries.now c.args.count c.args.key c.requires c.find.ensures c.in-Free.is

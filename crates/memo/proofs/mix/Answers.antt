@@ -3,4 +3,4 @@ use Rattle.memo.proofs.mix.Goals as goal
 
 pub returns : goal.returns
 unfolding mix_of mixed folded
-returns c = rw (c.wrapping_mul-c.ensures, c.wrapping_mul-b.ensures, c.wrapping_add_u64-a.ensures.value)
+returns c = rw (c.wrapping_mul-c.ensures, c.wrapping_mul-b.ensures)

@@ -1,11 +1,16 @@
-use Rattle.std.proofs.Common.{refl, lt_irrefl, arith}
+use Rattle.std.proofs.Common.{refl, arith}
 use Rattle.memo.specs.Entries.{word}
 use Rattle.memo.proofs.named.Goals as goal
+use Rattle.memo.proofs.named.Goals.{else-k-count-via-then-k-count+else-entries-k, else-k-count-via-else-k-count}
 
 pub returns-then-entries-k : goal.returns-then-entries-k
 unfolding word
-returns-then-entries-k c = record { most = omega arith; live = λ h. record { number = h; back = c.if-entries-k.true }; same = λ h. refl; dead = λ e l. omega arith }
+returns-then-entries-k c = record { live = record { number = c.if-k-count.true; back = c.if-entries-k.true }; same = refl }
 
-pub returns : goal.returns
+pub returns-else-k-count : goal.returns-else-k-count
 unfolding word
-returns c = record { most = omega arith; live = λ h. absurd (lt_irrefl _ h); same = λ h. absurd (lt_irrefl _ h); dead = λ e l. c.if-entries-k.false l.back }
+returns-else-k-count c =
+    λ l. elim c.else-k-count.branch [
+      | else-k-count-via-then-k-count+else-entries-k w ↦ w.if-entries-k.false l.back
+      | else-k-count-via-else-k-count w ↦ omega (arith, l.number)
+    ]

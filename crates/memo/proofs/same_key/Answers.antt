@@ -1,21 +1,24 @@
-use Rattle.std.proofs.Common.{ap}
+use Rattle.std.proofs.Common.{ap, sym, ◌∙◌, eqb-true}
+use borrow.Author.Tests.{eqb-false}
 use Rattle.memo.specs.declared.MemoKey.{MemoKey}
 use Rattle.memo.specs.Entries.{word}
-use Rattle.memo.proofs.Search.{told_no, told_yes}
+use Rattle.memo.proofs.Search.{told_no, told_by_indent}
 use Rattle.memo.proofs.same_key.Goals as goal
-
-pub returns-then-entries-k : goal.returns-then-entries-k
-unfolding word
-returns-then-entries-k c = told_no (λ q. c.if-entries-k.true (ap (λ (z : MemoKey). z.node) q))
+use Rattle.memo.proofs.same_key.Goals.{then-entries-k, else-entries-k}
 
 pub returns-then-entries-k-2 : goal.returns-then-entries-k-2
 unfolding word
-returns-then-entries-k-2 c = told_no (λ q. c.if-entries-k-2.true (ap (λ (z : MemoKey). z.column) q))
+returns-then-entries-k-2 c =
+    elim c.if-entries-k.branch [
+      | then-entries-k w ↦ told_by_indent c.args.entries.now c.args.k c.args.key w.if-entries-k.true (eqb-true _ _ (sym w.value-is ∙ c.if-entries-k-2.true))
+      | else-entries-k w ↦ absurd (w.if-entries-k.false (eqb-true _ _ (sym w.value-is ∙ c.if-entries-k-2.true)))
+    ]
 
-pub returns-then-entries-k-3 : goal.returns-then-entries-k-3
+pub returns-else-entries-k-2 : goal.returns-else-entries-k-2
 unfolding word
-returns-then-entries-k-3 c = told_no (λ q. c.if-entries-k-3.true (ap (λ (z : MemoKey). z.indent) q))
-
-pub returns : goal.returns
-unfolding word
-returns c = told_yes c.args.entries.now c.args.k c.args.key c.if-entries-k.false c.if-entries-k-2.false c.if-entries-k-3.false
+returns-else-entries-k-2 c =
+    rw c.if-entries-k-2.false
+    (told_no λ q. elim c.if-entries-k.branch [
+      | then-entries-k w ↦ eqb-false _ _ (sym w.value-is ∙ c.if-entries-k-2.false) (ap (λ (z : MemoKey). z.column) q)
+      | else-entries-k w ↦ w.if-entries-k.false (ap (λ (z : MemoKey). z.node) q)
+    ])

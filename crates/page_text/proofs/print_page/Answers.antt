@@ -1,6 +1,5 @@
 use native.Mathlib.Omega.{arith}
 use Rattle.page_text.proofs.Laws.{prints_too_long, prints_fault, prints_answer, at_inside}
-use borrow.Author.Rules.{rules}
 use Rattle.page_text.proofs.print_page.Goals as goal
 
 pub returns-then-input-gt32768 : goal.returns-then-input-gt32768

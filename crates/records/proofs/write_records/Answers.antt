@@ -5,9 +5,6 @@ use Rattle.records.proofs.write_records.Goals as goal
 pub loop-w-init : goal.loop-w-init
 loop-w-init c = first_holds c.requires
 
-pub turn_within-s-requires : goal.turn_within-s-requires
-turn_within-s-requires c = turns c.requires c.loop-w.invariant c.loop-w-test.true
-
 pub mark_and_count-requires : goal.mark_and_count-requires
 mark_and_count-requires c =
     let b = c.requires in
@@ -15,9 +12,6 @@ mark_and_count-requires c =
     let m = c.loop-w-test.true in
     let t = c.turn_within-s.ensures in
     (fits b h m t, room b h m t)
-
-pub loop-w-smaller : goal.loop-w-smaller
-loop-w-smaller c = less c.requires c.loop-w.invariant c.loop-w-test.true c.turn_within-s.ensures
 
 pub loop-w-preserved : goal.loop-w-preserved
 loop-w-preserved c =

@@ -12,29 +12,17 @@ starts-at-requires c = starting c.requires.sound (omega arith) (omega arith) (om
 pub entry_at-row-requires : goal.entry_at-row-requires
 entry_at-row-requires c = omega (arith, c.requires.place_in, c.requires.sound.rows_in, c.requires.sound.table_lent)
 
-pub remove_bytes-requires : goal.remove_bytes-requires
-remove_bytes-requires c = out_files c.requires c.starts-used.ensures c.starts-at.ensures c.entry_at-row.ensures
+pub remove-requires : goal.remove-requires
+remove-requires c = out_files c.requires c.starts-used.ensures c.starts-at.ensures c.entry_at-row.ensures
 
-pub remove_bytes-requires-2 : goal.remove_bytes-requires-2
-remove_bytes-requires-2 c = out_pages c.requires c.starts-used.ensures c.starts-at.ensures c.entry_at-row.ensures
+pub remove-requires-2 : goal.remove-requires-2
+remove-requires-2 c = out_pages c.requires c.starts-used.ensures c.starts-at.ensures c.entry_at-row.ensures
 
-pub remove_marks-requires : goal.remove_marks-requires
-remove_marks-requires c = out_marks c.requires c.starts-used.ensures c.starts-at.ensures c.entry_at-row.ensures
+pub remove-requires-3 : goal.remove-requires-3
+remove-requires-3 c = out_marks c.requires c.starts-used.ensures c.starts-at.ensures c.entry_at-row.ensures
 
-pub remove_row-requires : goal.remove_row-requires
-remove_row-requires c = (c.requires.place_in, omega (arith, c.requires.sound.rows_in, c.requires.sound.table_lent))
-
-pub shape_of-table : goal.shape_of-table
-shape_of-table c = c.remove_row.auto.table
-
-pub shape_of-files : goal.shape_of-files
-shape_of-files c = c.remove_bytes.auto.m
-
-pub shape_of-pages : goal.shape_of-pages
-shape_of-pages c = c.remove_bytes-2.auto.m
-
-pub shape_of-marks : goal.shape_of-marks
-shape_of-marks c = c.remove_marks.auto.m
+pub remove-requires-4 : goal.remove-requires-4
+remove-requires-4 c = (omega (arith, c.requires.place_in), omega (arith, c.requires.sound.rows_in, c.requires.sound.table_lent))
 
 pub returns : goal.returns
-returns c = taken_out c.requires c.starts-used.result c.starts-at.result c.entry_at-row.result c.starts-used.ensures c.starts-at.ensures c.entry_at-row.ensures c.remove_bytes.ensures c.remove_bytes-2.ensures c.remove_marks.ensures c.remove_row.ensures c.remove_row.auto.table c.remove_bytes.auto.m c.remove_bytes-2.auto.m c.remove_marks.auto.m
+returns c = taken_out c.requires c.starts-used.result c.starts-at.result c.entry_at-row.result c.starts-used.ensures c.starts-at.ensures c.entry_at-row.ensures c.remove.ensures c.remove-2.ensures c.remove-3.ensures c.remove-4.ensures c.remove-4.auto.m c.remove.auto.m c.remove-2.auto.m c.remove-3.auto.m

@@ -4,14 +4,14 @@ use native.Mathlib.Omega.{arith}
 use mathlib.Core.Path.{refl}
 use Rattle.report_settle.proofs.judge.Goals as goal
 
-pub returns-in-Failed : goal.returns-in-Failed
-returns-in-Failed c = λ x t. dear (told_past t c.in-Failed.is)
+pub returns-in-Err : goal.returns-in-Err
+returns-in-Err c = λ x t. dear (told_past t c.in-Err.is)
 
-pub returns-then-b-bytes : goal.returns-then-b-bytes
-returns-then-b-bytes c = λ x t. long (told_fits t c.in-Cost.is) (omega arith)
+pub returns-in-Ok : goal.returns-in-Ok
+returns-in-Ok c = λ x t. long (told_fits t c.in-Ok.is) (omega arith)
 
-pub returns-then-b-spans : goal.returns-then-b-spans
-returns-then-b-spans c = λ x t. many (told_fits t c.in-Cost.is) (omega arith) (omega arith)
+pub returns-in-Ok-2 : goal.returns-in-Ok-2
+returns-in-Ok-2 c = λ x t. many (told_fits t c.in-Ok-2.is) (omega arith) (omega arith)
 
-pub returns-in-Cost : goal.returns-in-Cost
-returns-in-Cost c = λ x t. fits (told_value t c.in-Cost.is) refl refl (told_fits t c.in-Cost.is) (omega arith) (omega arith)
+pub returns-in-Ok-3 : goal.returns-in-Ok-3
+returns-in-Ok-3 c = λ x t. fits (told_value t c.in-Ok-3.is) refl refl (told_fits t c.in-Ok-3.is) (omega arith) (omega arith)

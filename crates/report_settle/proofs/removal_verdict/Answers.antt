@@ -19,10 +19,10 @@ pub overflow_sub-bytes : goal.overflow_sub-bytes
 overflow_sub-bytes c = omega (arith, row_gone page_length c.args.table.now c.args.h.rows c.args.place c.requires.place_in c.requires.summable.table_in, c.starts-used.ensures.pages_are, c.entry_at-gone.ensures.page_is)
 
 pub overflow_add-bytes : goal.overflow_add-bytes
-overflow_add-bytes c = omega (arith, c.requires.summable.pages_small, c.requires.summable.rows_in, c.starts-used.ensures.pages_are, c.newlines-breaks.ensures)
+overflow_add-bytes c = omega (arith, c.requires.summable.pages_small, c.requires.summable.rows_in, c.starts-used.ensures.pages_are)
 
 pub overflow_sub-spans : goal.overflow_sub-spans
 overflow_sub-spans c = omega (arith, row_gone span_count c.args.table.now c.args.h.rows c.args.place c.requires.place_in c.requires.summable.table_in, c.starts-used.ensures.marks_are, c.entry_at-gone.ensures.spans_are)
 
 pub returns : goal.returns
-returns c = verdict_is (omega (arith, row_gone page_length c.args.table.now c.args.h.rows c.args.place c.requires.place_in c.requires.summable.table_in, c.starts-used.ensures.pages_are, c.entry_at-gone.ensures.page_is, c.newlines-breaks.ensures)) (omega (arith, row_gone span_count c.args.table.now c.args.h.rows c.args.place c.requires.place_in c.requires.summable.table_in, c.starts-used.ensures.marks_are, c.entry_at-gone.ensures.spans_are)) (c.judge.ensures _ c.cost_without-cost.ensures)
+returns c = verdict_is (omega (arith, row_gone page_length c.args.table.now c.args.h.rows c.args.place c.requires.place_in c.requires.summable.table_in, c.starts-used.ensures.pages_are, c.entry_at-gone.ensures.page_is)) (omega (arith, row_gone span_count c.args.table.now c.args.h.rows c.args.place c.requires.place_in c.requires.summable.table_in, c.starts-used.ensures.marks_are, c.entry_at-gone.ensures.spans_are)) (c.judge.ensures _ c.cost_without-cost.ensures)

@@ -1,4 +1,6 @@
+use Rattle.solve_workspace.specs.Words.{low_is}
+use Rattle.solve_workspace.specs.Meets.{needs_in}
 use Rattle.solve.proofs.needs_of.Goals as goal
 
 pub returns : goal.returns
-returns c = rw (c.narrow.ensures, c.narrow-2.ensures, c.narrow-3.ensures, c.narrow-4.ensures, c.narrow-5.ensures, c.larger-frontier.ensures)
+returns c = let n = needs_in c.args.g.now in let w = c.requires in rw (c.max.ensures, low_is n.stack w.stack, low_is n.memo w.memo, low_is n.kept w.kept, low_is n.frontier w.frontier, low_is n.plans w.plans)

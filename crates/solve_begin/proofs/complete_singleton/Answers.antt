@@ -1,60 +1,18 @@
-use mathlib.Core.Path.{◌∙◌}
 use mathlib.Core.List.{[]}
-use native.Mathlib.Omega.{arith}
 use Rattle.machine.specs.Solver.{complete_singleton}
 use Rattle.solve_workspace.specs.Entering.{memory_of}
 use Rattle.solve_workspace.specs.Runs.{seq, halt, kept_by}
-use Rattle.solve_workspace.specs.Stores.{went, halted, held_on}
+use Rattle.solve_workspace.specs.TurnLaws.{went, halted, held_on, handed_on}
 use Rattle.solve_begin.proofs.Begin.{memory_stopped}
-use borrow.Author.Rules.{rules}
 use Rattle.solve_begin.proofs.complete_singleton.Goals as goal
 
-pub shape_of-g-in_default : goal.shape_of-g-in_default
-shape_of-g-in_default c = c.g-1.given
-
-pub shape_of-frontier-in_default : goal.shape_of-frontier-in_default
-shape_of-frontier-in_default c = c.frontier-1.given
-
-pub shape_of-kept-in_default : goal.shape_of-kept-in_default
-shape_of-kept-in_default c = c.kept-1.given
-
-pub shape_of-plans-in_default : goal.shape_of-plans-in_default
-shape_of-plans-in_default c = c.plans-1.given
-
-pub returns-in_default : goal.returns-in_default
+pub returns-in_err-singleton : goal.returns-in_err-singleton
 unfolding complete_singleton
-returns-in_default c = record { meets = λ R P ts ps. halt _ (c.singleton-a.ensures.meets ts _ ps _) (halted _ c.in_default.is); memory = memory_stopped (halted _ c.in_default.is) }
-
-pub bounds-g-6 : goal.bounds-g-6
-bounds-g-6 c = omega (arith, c.g-1.given, c.requires.1.1.1.1.1.room)
-
-pub bounds-g-7 : goal.bounds-g-7
-bounds-g-7 c = omega (arith, c.g-1.given, c.requires.1.1.1.1.1.room)
+returns-in_err-singleton c = rw (handed_on c.in_err-singleton.was c.from_residual.ensures.1) (record { meets = λ R P ts ps. halt _ (c.singleton.ensures.meets ts _ ps _) (halted _ c.in_err-singleton.was); memory = memory_stopped (halted _ c.in_err-singleton.was) })
 
 pub complete_node-requires : goal.complete_node-requires
-complete_node-requires c = (memory_of c.requires.1.1.1.0 (kept_by c.singleton-a.ensures.keeps (went _ c.in-Going.is)).memo, (c.requires.1.1.1.1.0, held_on c.requires.1.1.1.1.1 c.g-1.given (c.singleton-a.ensures.meets [] [] [] []) c.in-Going.is))
-
-pub shape_of-g : goal.shape_of-g
-shape_of-g c = c.g-2-1.given ∙ c.g-1.given
-
-pub shape_of-frontier : goal.shape_of-frontier
-shape_of-frontier c = c.frontier-1.given
-
-pub shape_of-kept : goal.shape_of-kept
-shape_of-kept c = c.kept-1.given
-
-pub shape_of-plans : goal.shape_of-plans
-shape_of-plans c = c.plans-1.given
-
-pub shape_of-index : goal.shape_of-index
-shape_of-index c = c.index-1.given
-
-pub shape_of-entries : goal.shape_of-entries
-shape_of-entries c = c.entries-1.given
-
-pub shape_of-results : goal.shape_of-results
-shape_of-results c = c.results-1.given
+complete_node-requires c = (memory_of c.requires.1.1.1.0 (kept_by c.singleton.ensures.keeps (went _ c.in_ok-singleton.was)).memo, (c.requires.1.1.1.1.0, held_on (c.singleton.ensures.meets [] [] [] []) c.in_ok-singleton.was))
 
 pub returns : goal.returns
 unfolding complete_singleton
-returns c = record { meets = λ R P ts ps. seq _ (c.singleton-a.ensures.meets ts _ ps _) (went _ c.in-Going.is) (c.complete_node.ensures.meets ts ps _ _ _); memory = c.complete_node.ensures.memory }
+returns c = record { meets = λ R P ts ps. seq _ (c.singleton.ensures.meets ts _ ps _) (went _ c.in_ok-singleton.was) (c.complete_node.ensures.meets ts ps _ _ _); memory = c.complete_node.ensures.memory }

@@ -1,5 +1,4 @@
--- `solve_builder::kept_row` meets its contract.
-use native.Mathlib.Omega.{arith}
+use Rattle.std.proofs.Common.{arith}
 use Rattle.solve_builder.proofs.Plans.{kept_row_is}
 use Rattle.solve_builder.proofs.kept_row.Goals as goal
 

@@ -1,54 +1,20 @@
--- `solve_complete::complete_union` meets its contract.
-use mathlib.Core.Path.{◌∙◌}
-use native.Mathlib.Omega.{arith}
+use Rattle.std.proofs.Common.{[], ◌∙◌}
 use Rattle.machine.specs.Solver.{complete_union}
 use Rattle.solve_workspace.specs.Entering.{memory_of}
-use Rattle.solve_workspace.specs.Work.{popped_held}
+use Rattle.solve_workspace.specs.Runs.{seq, halt, kept_by}
+use Rattle.solve_workspace.specs.TurnLaws.{went, halted, held_on, handed_on}
 use Rattle.solve_complete.proofs.Completes.{popped_then}
 use Rattle.solve_complete.proofs.complete_union.Goals as goal
 
-pub pop_exact_result-requires : goal.pop_exact_result-requires
-pop_exact_result-requires c = (c.requires.1.1.1.1.1.1.room, (omega (arith, c.requires.1.1.1.1.1.0), omega (arith, c.requires.1.0, c.requires.1.1.1.1.1.1.sound.results)))
-
-pub bounds-g-6 : goal.bounds-g-6
-bounds-g-6 c = omega (arith, c.g-1.given, c.requires.1.1.1.1.1.1.room)
-
-pub bounds-g-7 : goal.bounds-g-7
-bounds-g-7 c = omega (arith, c.g-1.given, c.requires.1.1.1.1.1.1.room)
-
-pub pop_exact_result-requires-2 : goal.pop_exact_result-requires-2
-pop_exact_result-requires-2 c = (omega (arith, c.g-1.given, c.requires.1.1.1.1.1.1.room), (omega (arith, c.pop_exact_result.ensures.popped.results, c.requires.1.1.1.1.1.0), omega (arith, c.pop_exact_result.ensures.popped.results, c.requires.1.0, c.requires.1.1.1.1.1.1.sound.results)))
-
-pub bounds-g-6-2 : goal.bounds-g-6-2
-bounds-g-6-2 c = omega (arith, c.g-2-1.given, c.g-1.given, c.requires.1.1.1.1.1.1.room)
-
-pub bounds-g-7-2 : goal.bounds-g-7-2
-bounds-g-7-2 c = omega (arith, c.g-2-1.given, c.g-1.given, c.requires.1.1.1.1.1.1.room)
-
-pub complete_ranges-requires : goal.complete_ranges-requires
-complete_ranges-requires c = (memory_of c.requires.0 (c.pop_exact_result-2.ensures.popped.memo ∙ c.pop_exact_result.ensures.popped.memo), (c.requires.1.0, (c.requires.1.1.0, (c.requires.1.1.1.0, (c.requires.1.1.1.1.0, popped_held {g = c.pop_exact_result.new.g} c.pop_exact_result-2.ensures.popped c.g-2-1.given (popped_held c.pop_exact_result.ensures.popped c.g-1.given c.requires.1.1.1.1.1.1))))))
-
-pub shape_of-g : goal.shape_of-g
-shape_of-g c = c.g-3-1.given ∙ (c.g-2-1.given ∙ c.g-1.given)
-
-pub shape_of-results : goal.shape_of-results
-shape_of-results c = c.results-1.given
-
-pub shape_of-index : goal.shape_of-index
-shape_of-index c = c.index-1.given
-
-pub shape_of-entries : goal.shape_of-entries
-shape_of-entries c = c.entries-1.given
-
-pub shape_of-frontier : goal.shape_of-frontier
-shape_of-frontier c = c.frontier-1.given
-
-pub shape_of-kept : goal.shape_of-kept
-shape_of-kept c = c.kept-1.given
-
-pub shape_of-plans : goal.shape_of-plans
-shape_of-plans c = c.plans-1.given
-
-pub returns : goal.returns
+pub returns-in_err-union_ranges-clause-meets : goal.returns-in_err-union_ranges-clause-meets
 unfolding complete_union
-returns c = record { meets = λ R P ts ps. popped_then _ c.pop_exact_result.ensures.popped (c.pop_exact_result.ensures.is ts ps _ _ _ _) (popped_then _ c.pop_exact_result-2.ensures.popped (c.pop_exact_result-2.ensures.is ts ps _ _ _ _) (c.complete_ranges.ensures.meets ts ps)); memory = c.complete_ranges.ensures.memory }
+returns-in_err-union_ranges-clause-meets c = λ R P ts ps. rw (handed_on c.in_err-union_ranges.was c.from_residual.ensures.1) (popped_then _ c.pop_exact_result.ensures.popped (c.pop_exact_result.ensures.is ts ps _ _ _ _) (popped_then _ c.pop_exact_result-2.ensures.popped (c.pop_exact_result-2.ensures.is ts ps _ _ _ _)
+    (halt _ (c.union_ranges.ensures.meets ts _ ps _) (halted _ c.in_err-union_ranges.was))))
+
+pub complete_made-requires : goal.complete_made-requires
+complete_made-requires c = (memory_of c.requires.0 ((kept_by c.union_ranges.ensures.keeps (went _ c.in_ok-union_ranges.was)).memo ∙ (c.pop_exact_result-2.ensures.popped.memo ∙ c.pop_exact_result.ensures.popped.memo)), (c.requires.1.0, held_on (c.union_ranges.ensures.meets [] [] [] []) c.in_ok-union_ranges.was))
+
+pub returns-clause-meets : goal.returns-clause-meets
+unfolding complete_union
+returns-clause-meets c = λ R P ts ps. popped_then _ c.pop_exact_result.ensures.popped (c.pop_exact_result.ensures.is ts ps _ _ _ _) (popped_then _ c.pop_exact_result-2.ensures.popped (c.pop_exact_result-2.ensures.is ts ps _ _ _ _)
+    (seq _ (c.union_ranges.ensures.meets ts _ ps _) (went _ c.in_ok-union_ranges.was) (c.complete_made.ensures.meets ts ps _ _ _)))

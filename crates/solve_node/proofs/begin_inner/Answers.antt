@@ -1,4 +1,3 @@
-use borrow.Author.Rules.{rules}
 use Rattle.solve_node.proofs.begin_inner.Goals as goal
 
 pub returns-in-Single : goal.returns-in-Single
@@ -8,4 +7,4 @@ pub returns-in-Union : goal.returns-in-Union
 returns-in-Union c = record { meets = λ P rs ps es ks fs ns. rw c.in-Union.is (c.begin_union.ensures.meets _ P rs ps es ks fs ns); keeps = c.begin_union.ensures.keeps }
 
 pub returns-in-Choice : goal.returns-in-Choice
-returns-in-Choice c = record { meets = λ P rs ps es ks fs ns. rw c.in-Choice.is (c.begin_choice.ensures.meets _ P rs ps es ks fs ns); keeps = c.begin_choice.ensures.keeps }
+returns-in-Choice c = record { meets = λ P rs ps es ks fs ns. rw (c.in-Choice.is, ← c.part.ensures) (c.begin_choice.ensures.meets _ P rs ps es ks fs ns); keeps = c.begin_choice.ensures.keeps }

@@ -1,6 +1,5 @@
 use mathlib.Core.Path.{refl}
 use Rattle.solve_node.proofs.Leaves.{leafed_at, empty_leaf, newline_leaf}
-use borrow.Author.Rules.{rules}
 use Rattle.solve_node.proofs.leaf_candidate.Goals as goal
 
 pub returns-in-Empty : goal.returns-in-Empty

@@ -1,44 +1,25 @@
--- `solve_ranges::wrap_range` meets its contract.
-use mathlib.Core.Path.{◌∙◌}
-use mathlib.Core.List.{[]}
-use native.Mathlib.Omega.{arith}
+use Rattle.std.proofs.Common.{[], arith}
 use Rattle.machine.specs.Events.{◌>>=◌}
 use Rattle.machine.specs.Model.{State, range}
 use Rattle.machine.specs.Solver.{finish_builder, wrap_range}
-use Rattle.solve_workspace.specs.Runs.{seq, halt, kept_by, kept_on}
-use Rattle.solve_workspace.specs.Stores.{went, halted, held_on}
-use Rattle.solve_builder.specs.Opening.{building_by, begun_building, begun_held, begun_kept, begun_from}
+use Rattle.solve_workspace.specs.Runs.{seq, halt}
+use Rattle.solve_workspace.specs.TurnLaws.{went, halted, held_on, handed_on}
+use Rattle.solve_builder.specs.Opening.{building_by, begun_building, begun_held, begun_from}
 use Rattle.solve_ranges.specs.Wrapping.{wrapping, charging, wrapped_range}
 use Rattle.solve_ranges.proofs.wrap_range.Goals as goal
 
-pub present_wrapped-a-requires : goal.present_wrapped-a-requires
-present_wrapped-a-requires c = (begun_building c.begin_builder.ensures c.requires.0 (omega (arith)), (omega (arith, c.requires.1.0), begun_held c.begin_builder.ensures c.g-1.given c.requires.1.1.1))
+pub present_wrapped-requires : goal.present_wrapped-requires
+present_wrapped-requires c = (begun_building c.begin_builder.ensures c.requires.0 (omega arith), (c.requires.1.0, begun_held c.begin_builder.ensures c.requires.1.1.1))
 
-pub shape_of-g-in_default : goal.shape_of-g-in_default
-shape_of-g-in_default c = c.g-2-1.given ∙ c.g-1.given
-
-pub shape_of-frontier-in_default : goal.shape_of-frontier-in_default
-shape_of-frontier-in_default c = c.frontier-1.given
-
-pub returns-in_default : goal.returns-in_default
+pub returns-in_err-present_wrapped-clause-meets : goal.returns-in_err-present_wrapped-clause-meets
 unfolding wrap_range
-returns-in_default c = record { meets = λ ts rs ps es. begun_from (λ (S : State). wrapped_range (wrapping c.args.wrapper) (charging c.args.wrapper) (range c.args.start c.args.len) S >>= finish_builder) c.begin_builder.ensures ts rs ps es c.args.kept.now c.args.frontier.now c.args.plans.now (halt _ (c.present_wrapped-a.ensures.meets ts rs ps es c.args.plans.now) (halted _ c.in_default.is)); keeps = kept_on _ (begun_kept c.begin_builder.ensures) c.present_wrapped-a.ensures.keeps }
+returns-in_err-present_wrapped-clause-meets c = λ ts rs ps es. rw (handed_on c.in_err-present_wrapped.was c.from_residual.ensures.1) (begun_from (λ (S : State). wrapped_range (wrapping c.args.wrapper) (charging c.args.wrapper) (range c.args.start c.args.len) S >>= finish_builder) c.begin_builder.ensures ts rs ps es c.args.kept.now c.args.frontier.now c.args.plans.now
+    (halt _ (c.present_wrapped.ensures.meets ts rs ps es c.args.plans.now) (halted _ c.in_err-present_wrapped.was)))
 
 pub finish_builder-requires : goal.finish_builder-requires
-finish_builder-requires c = (building_by c.present_wrapped-a.ensures.building (went _ c.in-Going.is), (omega (arith, c.requires.1.0), (omega (arith, c.requires.1.1.0), held_on c.requires.1.1.1 (c.g-2-1.given ∙ c.g-1.given) (c.present_wrapped-a.ensures.meets [] [] [] [] []) c.in-Going.is)))
+finish_builder-requires c = (building_by c.present_wrapped.ensures.building (went _ c.in_ok-present_wrapped.was), (c.requires.1.0, (c.requires.1.1.0, held_on (c.present_wrapped.ensures.meets [] [] [] [] []) c.in_ok-present_wrapped.was)))
 
-pub shape_of-g : goal.shape_of-g
-shape_of-g c = c.g-3-1.given ∙ (c.g-2-1.given ∙ c.g-1.given)
-
-pub shape_of-frontier : goal.shape_of-frontier
-shape_of-frontier c = c.frontier-1.given
-
-pub shape_of-kept : goal.shape_of-kept
-shape_of-kept c = c.kept-1.given
-
-pub shape_of-plans : goal.shape_of-plans
-shape_of-plans c = c.plans-1.given
-
-pub returns : goal.returns
+pub returns-clause-meets : goal.returns-clause-meets
 unfolding wrap_range
-returns c = record { meets = λ ts rs ps es. begun_from (λ (S : State). wrapped_range (wrapping c.args.wrapper) (charging c.args.wrapper) (range c.args.start c.args.len) S >>= finish_builder) c.begin_builder.ensures ts rs ps es c.args.kept.now c.args.frontier.now c.args.plans.now (seq _ (c.present_wrapped-a.ensures.meets ts rs ps es c.args.plans.now) (went _ c.in-Going.is) (c.finish_builder.ensures.meets ts rs ps es)); keeps = kept_on _ (begun_kept c.begin_builder.ensures) (kept_on _ (kept_by c.present_wrapped-a.ensures.keeps (went _ c.in-Going.is)) c.finish_builder.ensures.keeps) }
+returns-clause-meets c = λ ts rs ps es. begun_from (λ (S : State). wrapped_range (wrapping c.args.wrapper) (charging c.args.wrapper) (range c.args.start c.args.len) S >>= finish_builder) c.begin_builder.ensures ts rs ps es c.args.kept.now c.args.frontier.now c.args.plans.now
+    (seq _ (c.present_wrapped.ensures.meets ts rs ps es c.args.plans.now) (went _ c.in_ok-present_wrapped.was) (c.finish_builder.ensures.meets ts rs ps es))

@@ -1,9 +1,5 @@
-use Rattle.solve_right.proofs.Rights.{child_node, child_none}
-use borrow.Author.Rules.{rules}
+use Rattle.solve_right.proofs.Rights.{child_read}
 use Rattle.solve_right.proofs.child_number.Goals as goal
 
-pub returns-in-Node : goal.returns-in-Node
-returns-in-Node c = child_node _ _ _ _ c.sequence_child.ensures c.in-Node.is
-
-pub returns-in-Nothing : goal.returns-in-Nothing
-returns-in-Nothing c = child_none _ _ _ c.sequence_child.ensures c.in-Nothing.is
+pub returns : goal.returns
+returns c = rw c.unwrap_or.ensures (child_read _ _ _ c.sequence_child.ensures)

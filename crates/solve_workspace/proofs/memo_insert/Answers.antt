@@ -1,24 +1,12 @@
-use native.Mathlib.Omega.{arith}
-use lib.ListN.{length-set}
-use Rattle.solve_workspace.specs.Entering.{entered_by, refused_by}
-use Rattle.solve_workspace.proofs.Inserting.{insert_on, insert_full, memory_grown}
-use Rattle.solve_workspace.specs.Stores.{halted_memory}
-use borrow.Author.Rules.{rules}
+use Rattle.std.proofs.Common.{arith, rules}
+use Rattle.solve_workspace.specs.Entering.{entered_by, refused_by, insert_go, insert_stop, insert_memory, entered_few, sound_memo}
+use Rattle.solve_workspace.specs.TurnLaws.{err_is}
 use Rattle.solve_workspace.proofs.memo_insert.Goals as goal
 
-pub bounds-g-20 : goal.bounds-g-20
-bounds-g-20 c = simp length-set (omega arith)
+pub returns-in_err-n : goal.returns-in_err-n
+returns-in_err-n c = rw (err_is c.from_residual.ensures.1) (record { meets = λ ts rs ps ks fs ns. insert_stop c.args.b c.args.g.now ts rs ps c.args.entries.now ks fs ns c.args.index.now _ _ c.args.key c.args.start c.args.len _ _ (refused_by c.memo_insert.ensures c.in_err-n.was); memory = record { by = tt } })
 
-pub raise-requires : goal.raise-requires
-raise-requires c = simp length-set (omega arith)
-
-pub returns-in-Full : goal.returns-in-Full
-returns-in-Full c = record { meets = λ ts rs ps ks fs ns. insert_full _ c.args.g.now _ _ _ _ _ _ _ _ (refused_by c.memo_insert.ensures c.in-Full.is) ts rs ps ks fs ns _; memory = halted_memory _ _ _ _ _ c.args.g.now }
-
-pub shape_of-g : goal.shape_of-g
-shape_of-g c = simp length-set at c.g-1.given
-
-pub returns-in-Inserted : goal.returns-in-Inserted
-returns-in-Inserted c =
-    let k = entered_by c.memo_insert.ensures c.in-Inserted.is in
-    record { meets = insert_on _ c.args.g.now _ _ _ _ _ _ _ _ _ c.requires.1 c.raise.ensures k; memory = memory_grown _ c.args.g.now _ _ _ _ _ _ _ _ _ c.requires.1 c.raise.ensures c.requires.0 k (omega arith) (omega arith) (search rules) (search rules) }
+pub returns : goal.returns
+returns c =
+    let k = entered_by c.memo_insert.ensures c.in_ok-n.was in
+    rw c.max-g.ensures (record { meets = λ ts rs ps ks fs ns. insert_go c.args.b c.args.g.now ts rs ps c.args.entries.now ks fs ns c.args.index.now _ _ c.args.key c.args.start c.args.len _ k (sound_memo _ c.requires.1 (entered_few k)); memory = record { by = insert_memory c.requires.0 k (record { start = omega arith; len = omega arith }) (search rules) (search rules) } })

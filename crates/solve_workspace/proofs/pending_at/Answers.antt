@@ -3,4 +3,4 @@ use Rattle.solve_workspace.proofs.pending_at.Goals as goal
 
 pub returns : goal.returns
 unfolding scratch_of
-returns c = rw c.narrow-last.ensures
+returns c = rw c.narrow.ensures

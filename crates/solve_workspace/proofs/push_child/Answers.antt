@@ -1,26 +1,16 @@
-use lib.ListN.{length-set}
-use native.Mathlib.Omega.{arith}
-use Rattle.solve_workspace.proofs.Children.{none_on, one_on, both_on, twice_keeps}
-use Rattle.solve_workspace.specs.Stores.{halted_keeps}
+use Rattle.machine.specs.Solver.{push_child}
+use Rattle.solve_workspace.specs.Runs.{seq, halt}
+use Rattle.solve_workspace.specs.TurnLaws.{went, halted, held_on, handed_on}
+use Rattle.std.proofs.Common.{[], arith}
 use Rattle.solve_workspace.proofs.push_child.Goals as goal
 
-pub returns-then-size-t : goal.returns-then-size-t
-returns-then-size-t c = record { meets = λ R P rs ps es ks fs ns. none_on R P _ c.args.g.now _ rs ps es ks fs ns _ _ _ (omega arith); keeps = halted_keeps _ _ _ c.args.g.now }
+pub returns-in_err-push_exact_task-clause-meets : goal.returns-in_err-push_exact_task-clause-meets
+unfolding push_child
+returns-in_err-push_exact_task-clause-meets c = λ R P rs ps es ks fs ns. rw (handed_on c.in_err-push_exact_task.was c.from_residual.ensures.1) (halt _ (c.push_exact_task.ensures.meets rs ps es ks fs ns) (halted _ c.in_err-push_exact_task.was))
 
-pub returns-then-size-u : goal.returns-then-size-u
-returns-then-size-u c = record { meets = λ R P rs ps es ks fs ns. one_on R P _ c.args.g.now _ rs ps es ks fs ns _ _ _ _ c.requires.1 c.task_row-row.ensures (omega arith) (omega arith) (omega arith); keeps = halted_keeps _ _ _ _ }
+pub push_exact_task-requires-2 : goal.push_exact_task-requires-2
+push_exact_task-requires-2 c = (omega arith, held_on (c.push_exact_task.ensures.meets [] [] [] [] [] []) c.in_ok-push_exact_task.was)
 
-pub bounds-tasks-u : goal.bounds-tasks-u
-bounds-tasks-u c = simp length-set (omega arith)
-
-pub bounds-g-0-3 : goal.bounds-g-0-3
-bounds-g-0-3 c = simp length-set (omega arith)
-
-pub raise-requires : goal.raise-requires
-raise-requires c = simp length-set (omega arith)
-
-pub shape_of-g : goal.shape_of-g
-shape_of-g c = simp length-set at c.g-1.given
-
-pub returns : goal.returns
-returns c = record { meets = λ R P rs ps es ks fs ns. both_on R P _ c.args.g.now _ rs ps es ks fs ns _ _ _ _ _ c.requires.1 c.raise.ensures c.task_row-row.ensures c.task_row-inner.ensures (omega arith) (omega arith); keeps = twice_keeps c.args.g.now _ (omega arith) c.raise.ensures }
+pub returns-clause-meets : goal.returns-clause-meets
+unfolding push_child
+returns-clause-meets c = λ R P rs ps es ks fs ns. seq _ (c.push_exact_task.ensures.meets rs ps es ks fs ns) (went _ c.in_ok-push_exact_task.was) (c.push_exact_task-2.ensures.meets rs ps es ks fs ns)

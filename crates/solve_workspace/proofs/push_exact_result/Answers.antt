@@ -1,17 +1,9 @@
-use lib.ListN.{length-set}
-use native.Mathlib.Omega.{arith}
-use Rattle.solve_workspace.proofs.Pushing.{result_on, result_full, results_same}
-use Rattle.solve_workspace.specs.Stores.{halted_same}
+use Rattle.std.proofs.Common.{arith}
+use Rattle.solve_workspace.specs.Stacks.{sound_results, result_go, result_stop}
 use Rattle.solve_workspace.proofs.push_exact_result.Goals as goal
 
-pub returns-then-size-r : goal.returns-then-size-r
-returns-then-size-r c = record { meets = λ ts ps es ks fs ns. result_full _ c.args.g.now ts _ ps es ks fs ns _ _ _ (omega arith); keeps = halted_same _ _ _ c.args.g.now }
+pub returns-then-b-top-clause-meets : goal.returns-then-b-top-clause-meets
+returns-then-b-top-clause-meets c = λ ts ps es ks fs ns. result_stop c.args.b c.args.g.now ts c.args.results.now ps es ks fs ns _ _ _ (omega arith)
 
-pub raise-requires : goal.raise-requires
-raise-requires c = simp length-set (omega arith)
-
-pub shape_of-g : goal.shape_of-g
-shape_of-g c = simp length-set at c.g-1.given
-
-pub returns : goal.returns
-returns c = record { meets = λ ts ps es ks fs ns. result_on _ c.args.g.now ts _ ps es ks fs ns _ _ _ c.requires.1 c.raise.ensures (omega arith) (omega arith); keeps = results_same c.args.g.now _ (omega arith) c.raise.ensures }
+pub returns-clause-meets : goal.returns-clause-meets
+returns-clause-meets c = λ ts ps es ks fs ns. rw c.max-g.ensures (result_go c.args.b c.args.g.now ts c.args.results.now ps es ks fs ns c.args.start c.args.len (omega arith) (omega arith) (sound_results _ c.requires.1 (omega arith)))

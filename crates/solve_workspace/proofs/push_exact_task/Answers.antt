@@ -1,17 +1,9 @@
-use lib.ListN.{length-set}
-use native.Mathlib.Omega.{arith}
-use Rattle.solve_workspace.proofs.Pushing.{task_on, task_full, tasks_keeps}
-use Rattle.solve_workspace.specs.Stores.{halted_keeps}
+use Rattle.std.proofs.Common.{arith}
+use Rattle.solve_workspace.specs.Stacks.{sound_tasks, task_go, task_stop}
 use Rattle.solve_workspace.proofs.push_exact_task.Goals as goal
 
-pub returns-then-size-t : goal.returns-then-size-t
-returns-then-size-t c = record { meets = λ rs ps es ks fs ns. task_full _ c.args.g.now _ rs ps es ks fs ns _ _ (omega arith); keeps = halted_keeps _ _ _ c.args.g.now }
+pub returns-then-b-top-clause-meets : goal.returns-then-b-top-clause-meets
+returns-then-b-top-clause-meets c = λ rs ps es ks fs ns. task_stop c.args.b c.args.g.now c.args.tasks.now rs ps es ks fs ns _ _ (omega arith)
 
-pub raise-requires : goal.raise-requires
-raise-requires c = simp length-set (omega arith)
-
-pub shape_of-g : goal.shape_of-g
-shape_of-g c = simp length-set at c.g-1.given
-
-pub returns : goal.returns
-returns c = record { meets = λ rs ps es ks fs ns. task_on _ c.args.g.now _ rs ps es ks fs ns _ _ _ c.requires.1 c.raise.ensures c.task_row-row.ensures (omega arith) (omega arith); keeps = tasks_keeps c.args.g.now _ (omega arith) c.raise.ensures }
+pub returns-clause-meets : goal.returns-clause-meets
+returns-clause-meets c = λ rs ps es ks fs ns. let h = c.max-g.ensures in rw h (task_go c.args.b c.args.g.now c.args.tasks.now rs ps es ks fs ns c.task_row.result _ c.task_row.ensures (omega arith) (omega arith) (sound_tasks _ c.requires.1 (omega arith)))

@@ -6,10 +6,7 @@ use Rattle.test_frontier.proofs.Turning.{still}
 use Rattle.test_frontier.proofs.turn.Goals as goal
 
 pub done-requires : goal.done-requires
-done-requires c = ((subst (λ z. Presents c.args.frontier.now c.present-answer.new.frontier 6 c.args.s.builder (carried c.drawn-c.result) z) c.in-Done.is c.present-answer.ensures).frontier, omega (arith, c.requires.1, c.list_present-count.auto.rows))
+done-requires c = ((subst (λ z. Presents c.args.frontier.now c.present-answer.new.frontier 6 c.args.s.builder (carried c.drawn-c.result) z) c.in-Ok.is c.present-answer.ensures).frontier, omega (arith, c.requires.1, c.list_present-listed.auto.rows), c.list_present-listed.ensures)
 
-pub returns-in-Exhausted : goal.returns-in-Exhausted
-returns-in-Exhausted c = still c.requires.0 (subst (λ z. Presents c.args.frontier.now c.present-answer.new.frontier 6 c.args.s.builder (carried c.drawn-c.result) z) c.in-Exhausted.is c.present-answer.ensures).same c.refused.ensures
-
-pub returns-in-Done : goal.returns-in-Done
-returns-in-Done c = c.done.ensures
+pub returns-in-Err : goal.returns-in-Err
+returns-in-Err c = still c.requires.0 (subst (λ z. Presents c.args.frontier.now c.present-answer.new.frontier 6 c.args.s.builder (carried c.drawn-c.result) z) c.in-Err.is c.present-answer.ensures).same c.refused.ensures

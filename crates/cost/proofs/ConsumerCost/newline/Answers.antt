@@ -5,7 +5,7 @@ use Rattle.cost.proofs.ConsumerCost.newline.Goals as goal
 
 pub returns : goal.returns
 returns c =
-    let e = ap cost (low_only _ _ _ c.charge-charge.ensures) in
+    let e = ap cost (low_only _ _ _ c.charge.ensures) in
     record {
       says = e ∙ newline_fits c.args.model.rule c.args.model.width c.args.model.newline_cost c.args.indent (omega arith) (omega arith);
       fits = e;

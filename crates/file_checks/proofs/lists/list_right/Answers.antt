@@ -8,15 +8,10 @@ use mathlib.Core.List.{[], ◌∷◌}
 use mathlib.Core.Logic.{inl, inr}
 use lib.Seq.{drop-length}
 use Rattle.file_checks.proofs.lists.list_right.Goals as goal
+use Rattle.file_checks.proofs.lists.list_right.Goals.{then-left-eq0-via-then-left-eq0, then-left-eq0-via-else-left-eq0+then-node_word-ne9}
 
 pub returns-then-xs-left : goal.returns-then-xs-left
 returns-then-xs-left c = wrong_length _ _ _ _ _ c.if-xs-left.true
-
-pub overflow_sub-sp : goal.overflow_sub-sp
-overflow_sub-sp c = omega (arith, c.requires.xs_in_bounds, c.if-xs-left.false)
-
-pub bounds-stack-sp-2 : goal.bounds-stack-sp-2
-bounds-stack-sp-2 c = simp length-set (omega (arith, c.requires.xs_in_bounds, c.if-xs-left.false))
 
 pub loop-at-init : goal.loop-at-init
 loop-at-init c =
@@ -24,10 +19,8 @@ loop-at-init c =
     let T = a.nodes.now in
     let X = a.xs.now in
     let S = a.stack.now in
-    let b5 : length X ≤ length S = c.requires.xs_in_bounds in
     let S' = set (set S (length S - 2 + 1) a.second) (length S - 2) a.first in
     let el : length S' ≡ length S = simp length-set in
-    let h2 : 2 ≤ length S = omega (arith, b5, c.if-xs-left.false) in
     let e2 : length S - 2 + 2 ≡ length S = omega arith in
     let d : drop (length S - 2) S' ≡ a.first ∷ a.second ∷ [] = push2 S (length S - 2) a.first a.second (omega arith) ∙ rw (e2, drop-length S) in
     let b : Same T (Cut T (a.first ∷ a.second ∷ []) X a.skipped) (drop (length S' - 2) S') (drop 0 X) a.skipped =
@@ -39,115 +32,25 @@ returns-then-sp-stack c =
     let a = c.args in
     let T = a.nodes.now in
     let X = a.xs.now in
-    let S = a.stack.now in
     let l = c.loop-at in
-    let b1 : l.at ≤ length X = l.invariant.0 in
-    let b2 : l.sp ≤ length l.stack = l.invariant.1.0 in
-    let b4 : (length l.stack - l.sp) + l.left ≡ length X - l.at = l.invariant.1.1.1.0 in
-    let b3 : length l.stack ≡ length S = l.invariant.1.1.0 ∙ simp length-set in
-    let b5 : length X ≤ length S = c.requires.xs_in_bounds in
     let u = l.invariant.1.1.1.1 in
     no_stack T _ X l.stack l.sp l.at l.left u (omega (arith, c.if-sp-stack.true)) c.loop-at-test.true
 
-pub overflow_add-sp : goal.overflow_add-sp
-overflow_add-sp c =
-    let a = c.args in
-    let T = a.nodes.now in
-    let X = a.xs.now in
-    let S = a.stack.now in
-    let l = c.loop-at in
-    let b1 : l.at ≤ length X = l.invariant.0 in
-    let b2 : l.sp ≤ length l.stack = l.invariant.1.0 in
-    let b4 : (length l.stack - l.sp) + l.left ≡ length X - l.at = l.invariant.1.1.1.0 in
-    let b3 : length l.stack ≡ length S = l.invariant.1.1.0 ∙ simp length-set in
-    let b5 : length X ≤ length S = c.requires.xs_in_bounds in
-    let u = l.invariant.1.1.1.1 in
-    omega (arith, b2, b3, c.if-sp-stack.false)
-
 pub loop-at-preserved-then-xs-at : goal.loop-at-preserved-then-xs-at
 loop-at-preserved-then-xs-at c =
-    let a = c.args in
-    let T = a.nodes.now in
-    let X = a.xs.now in
-    let S = a.stack.now in
     let l = c.loop-at in
-    let b1 : l.at ≤ length X = l.invariant.0 in
-    let b2 : l.sp ≤ length l.stack = l.invariant.1.0 in
-    let b4 : (length l.stack - l.sp) + l.left ≡ length X - l.at = l.invariant.1.1.1.0 in
-    let b3 : length l.stack ≡ length S = l.invariant.1.1.0 ∙ simp length-set in
-    let b5 : length X ≤ length S = c.requires.xs_in_bounds in
-    let u = l.invariant.1.1.1.1 in
-    let hs : l.sp < length l.stack = omega (arith, c.if-sp-stack.false, b2) in
-    let ha : l.at < length X = c.loop-at-test.true in
-    (omega arith, (omega arith, (l.invariant.1.1.0, (omega (arith, b4, hs, ha), next_keep T _ X l.stack l.sp l.at l.left u hs ha c.requires.by_index c.if-xs-at.true))))
+    let hs : l.sp < length l.stack = omega (arith, c.if-sp-stack.false, l.invariant.1.0) in
+    (omega arith, (omega arith, (l.invariant.1.1.0, (omega (arith, l.invariant.1.1.1.0), next_keep c.args.nodes.now _ c.args.xs.now l.stack l.sp l.at l.left l.invariant.1.1.1.1 hs c.loop-at-test.true c.requires.by_index c.if-xs-at.true))))
 
 pub returns-then-left-eq0 : goal.returns-then-left-eq0
 returns-then-left-eq0 c =
-    let a = c.args in
-    let T = a.nodes.now in
-    let X = a.xs.now in
-    let S = a.stack.now in
     let l = c.loop-at in
-    let b1 : l.at ≤ length X = l.invariant.0 in
-    let b2 : l.sp ≤ length l.stack = l.invariant.1.0 in
-    let b4 : (length l.stack - l.sp) + l.left ≡ length X - l.at = l.invariant.1.1.1.0 in
-    let b3 : length l.stack ≡ length S = l.invariant.1.1.0 ∙ simp length-set in
-    let b5 : length X ≤ length S = c.requires.xs_in_bounds in
-    let u = l.invariant.1.1.1.1 in
-    let hs : l.sp < length l.stack = omega (arith, c.if-sp-stack.false, b2) in
-    let ha : l.at < length X = c.loop-at-test.true in
-    stuck T _ X l.stack l.sp l.at l.left u hs ha c.if-xs-at.false (inl c.if-left-eq0.true)
-
-pub returns-then-node_word-ne9 : goal.returns-then-node_word-ne9
-returns-then-node_word-ne9 c =
-    let a = c.args in
-    let T = a.nodes.now in
-    let X = a.xs.now in
-    let S = a.stack.now in
-    let l = c.loop-at in
-    let b1 : l.at ≤ length X = l.invariant.0 in
-    let b2 : l.sp ≤ length l.stack = l.invariant.1.0 in
-    let b4 : (length l.stack - l.sp) + l.left ≡ length X - l.at = l.invariant.1.1.1.0 in
-    let b3 : length l.stack ≡ length S = l.invariant.1.1.0 ∙ simp length-set in
-    let b5 : length X ≤ length S = c.requires.xs_in_bounds in
-    let u = l.invariant.1.1.1.1 in
-    let hs : l.sp < length l.stack = omega (arith, c.if-sp-stack.false, b2) in
-    let ha : l.at < length X = c.loop-at-test.true in
-    stuck T _ X l.stack l.sp l.at l.left u hs ha c.if-xs-at.false (inr (λ k. c.if-node_word-ne9.true (c.node_word.ensures ∙ k)))
-
-pub overflow_sub-sp-else-xs-at : goal.overflow_sub-sp-else-xs-at
-overflow_sub-sp-else-xs-at c =
-    let a = c.args in
-    let T = a.nodes.now in
-    let X = a.xs.now in
-    let S = a.stack.now in
-    let l = c.loop-at in
-    let b1 : l.at ≤ length X = l.invariant.0 in
-    let b2 : l.sp ≤ length l.stack = l.invariant.1.0 in
-    let b4 : (length l.stack - l.sp) + l.left ≡ length X - l.at = l.invariant.1.1.1.0 in
-    let b3 : length l.stack ≡ length S = l.invariant.1.1.0 ∙ simp length-set in
-    let b5 : length X ≤ length S = c.requires.xs_in_bounds in
-    let u = l.invariant.1.1.1.1 in
-    let hs : l.sp < length l.stack = omega (arith, c.if-sp-stack.false, b2) in
-    let ha : l.at < length X = c.loop-at-test.true in
-    omega (arith, b1, b2, b3, b4, b5, c.if-left-eq0.false)
-
-pub bounds-stack-sp-else-xs-at-2 : goal.bounds-stack-sp-else-xs-at-2
-bounds-stack-sp-else-xs-at-2 c =
-    let a = c.args in
-    let T = a.nodes.now in
-    let X = a.xs.now in
-    let S = a.stack.now in
-    let l = c.loop-at in
-    let b1 : l.at ≤ length X = l.invariant.0 in
-    let b2 : l.sp ≤ length l.stack = l.invariant.1.0 in
-    let b4 : (length l.stack - l.sp) + l.left ≡ length X - l.at = l.invariant.1.1.1.0 in
-    let b3 : length l.stack ≡ length S = l.invariant.1.1.0 ∙ simp length-set in
-    let b5 : length X ≤ length S = c.requires.xs_in_bounds in
-    let u = l.invariant.1.1.1.1 in
-    let hs : l.sp < length l.stack = omega (arith, c.if-sp-stack.false, b2) in
-    let ha : l.at < length X = c.loop-at-test.true in
-    simp length-set (omega (arith, hs))
+    let hs : l.sp < length l.stack = omega (arith, c.if-sp-stack.false, l.invariant.1.0) in
+    stuck c.args.nodes.now _ c.args.xs.now l.stack l.sp l.at l.left l.invariant.1.1.1.1 hs c.loop-at-test.true c.if-xs-at.false
+    (elim c.then-left-eq0.branch [
+      | then-left-eq0-via-then-left-eq0 w ↦ inl w.if-left-eq0.true
+      | then-left-eq0-via-else-left-eq0+then-node_word-ne9 w ↦ inr (λ k. w.if-node_word-ne9.true (w.node_word.ensures ∙ k))
+    ])
 
 pub loop-at-preserved : goal.loop-at-preserved
 loop-at-preserved c =
@@ -186,12 +89,9 @@ returns c =
     let a = c.args in
     let T = a.nodes.now in
     let X = a.xs.now in
-    let S = a.stack.now in
     let l = c.loop-at in
     let b1 : l.at ≤ length X = l.invariant.0 in
     let b2 : l.sp ≤ length l.stack = l.invariant.1.0 in
     let b4 : (length l.stack - l.sp) + l.left ≡ length X - l.at = l.invariant.1.1.1.0 in
-    let b3 : length l.stack ≡ length S = l.invariant.1.1.0 ∙ simp length-set in
-    let b5 : length X ≤ length S = c.requires.xs_in_bounds in
     let u = l.invariant.1.1.1.1 in
     finish T _ X l.stack l.sp l.at l.left u (omega (arith, b1, b2, b4, c.loop-at-test.false)) c.loop-at-test.false (omega (arith, b1, b2, b4, c.loop-at-test.false))

@@ -14,8 +14,8 @@ numbers_at-u-requires c = let l = limits c.args.s.now c.header_at-h.result c.hea
 pub texts_at-v-requires : goal.texts_at-v-requires
 texts_at-v-requires c = let l = limits c.args.s.now c.header_at-h.result c.header_at-h.ensures in (omega (arith, l.texts, c.requires.in_bounds_4), c.requires.in_bounds_5)
 
-pub overflow_cast-total : goal.overflow_cast-total
-overflow_cast-total c = omega (arith, run_le c.args.s.now _ _ c.texts_at-v.result c.texts_at-v.ensures.0)
+pub overflow_cast-result : goal.overflow_cast-result
+overflow_cast-result c = omega (arith, run_le c.args.s.now _ _ c.texts_at-v.result c.texts_at-v.ensures.0)
 
 pub returns : goal.returns
 returns c = filling c.args.s.now c.header_at-h.result c.nodes_at-q.result c.numbers_at-r.result c.numbers_at-u.result c.texts_at-v.result c.surplus-w.result _ _ _ _ _

@@ -9,5 +9,5 @@ returns-then-p-eq-NIL c = record { none = λ e. (refl, refl); some = λ n. absur
 pub store-requires : goal.store-requires
 store-requires c = (c.requires c.if-p-eq-NIL.false, lit< tt)
 
-pub returns : goal.returns
-returns c = record { none = λ e. absurd (c.if-p-eq-NIL.false e); some = λ n. (refl, c.store.ensures) }
+pub returns-else-p-eq-NIL : goal.returns-else-p-eq-NIL
+returns-else-p-eq-NIL c = record { none = λ e. absurd (c.if-p-eq-NIL.false e); some = λ n. (refl, c.store.ensures) }

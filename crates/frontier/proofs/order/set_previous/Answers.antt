@@ -9,5 +9,5 @@ returns-then-n-eq-NIL c = record { none = λ e. (refl, refl); some = λ n. absur
 pub store-requires : goal.store-requires
 store-requires c = (c.requires c.if-n-eq-NIL.false, lit< tt)
 
-pub returns : goal.returns
-returns c = record { none = λ e. absurd (c.if-n-eq-NIL.false e); some = λ n. (refl, c.store.ensures) }
+pub returns-else-n-eq-NIL : goal.returns-else-n-eq-NIL
+returns-else-n-eq-NIL c = record { none = λ e. absurd (c.if-n-eq-NIL.false e); some = λ n. (refl, c.store.ensures) }

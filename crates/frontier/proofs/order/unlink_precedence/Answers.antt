@@ -9,13 +9,13 @@ get-p-requires c = (w_at c.requires, lit< tt)
 pub get-n-requires : goal.get-n-requires
 get-n-requires c = (w_at c.requires, lit< tt)
 
-pub set_next-head-requires : goal.set_next-head-requires
-set_next-head-requires c = before_at c.requires c.get-p.ensures
+pub set_next-requires : goal.set_next-requires
+set_next-requires c = before_at c.requires c.get-p.ensures
 
-pub set_previous-tail-requires : goal.set_previous-tail-requires
-set_previous-tail-requires c =
+pub set_previous-requires : goal.set_previous-requires
+set_previous-requires c =
     let p = c.requires in
-    first_at _ _ c.get-n.result p.zs _ (un_rest p c.get-n.ensures (un_one p c.get-p.ensures c.set_next-head.ensures))
+    first_at _ _ c.get-n.result p.zs _ (un_rest p c.get-n.ensures (un_one p c.get-p.ensures c.set_next.ensures))
 
 pub returns : goal.returns
-returns c = λ p. un_two p c.get-n.ensures (un_one p c.get-p.ensures c.set_next-head.ensures) c.set_previous-tail.ensures
+returns c = λ p. un_two p c.get-n.ensures (un_one p c.get-p.ensures c.set_next.ensures) c.set_previous.ensures

@@ -1,7 +1,5 @@
-use lib.ListN.{length}
 use lib.Seq.{length-take-le}
-use Prim.Native.Nat.{◌≤◌}
-use mathlib.Core.Path.{◌≡◌, sym}
+use mathlib.Core.Path.{sym}
 use native.Mathlib.Omega.{arith}
 use Rattle.file_encode.specs.Fields.{Bytes}
 use Rattle.prepare.proofs.Reading.{bounds, formed, few, answer_ill, answer_wrong, answer_right}
@@ -14,81 +12,61 @@ pub slice_bounds-judged-end : goal.slice_bounds-judged-end
 slice_bounds-judged-end c =
     let z : Bytes c.args.file.now = record { byte = λ i. (c.type_inv.file i).fits } in
     let b = bounds c.args.file.now c.fill-f.result _ _ _ _ _ c.fill-f.ensures z c.if-f-ne0.false in
-    let k : length c.fill-f.new.nodes ≡ length c.args.nodes.now = c.fill-f.auto.nodes in
-    let h : c.fill-f.result.counts.nodes ≤ length c.fill-f.new.nodes = omega (arith, b.nodes, k, c.requires.nodes_lent) in
-    h
+    omega (arith, b.nodes, c.fill-f.auto.nodes, c.requires.nodes_lent)
 
 pub slice_bounds-judged-end-2 : goal.slice_bounds-judged-end-2
 slice_bounds-judged-end-2 c =
     let z : Bytes c.args.file.now = record { byte = λ i. (c.type_inv.file i).fits } in
     let b = bounds c.args.file.now c.fill-f.result _ _ _ _ _ c.fill-f.ensures z c.if-f-ne0.false in
-    let k : length c.fill-f.new.nodes ≡ length c.args.nodes.now = c.fill-f.auto.nodes in
-    let h : c.fill-f.result.counts.nodes ≤ length c.fill-f.new.nodes = omega (arith, b.nodes, k, c.requires.nodes_lent) in
-    sym (length-take-le c.fill-f.result.counts.nodes c.fill-f.new.nodes h)
+    sym (length-take-le _ c.fill-f.new.nodes (omega (arith, b.nodes, c.fill-f.auto.nodes, c.requires.nodes_lent)))
 
 pub slice_bounds-judged-end-3 : goal.slice_bounds-judged-end-3
 slice_bounds-judged-end-3 c =
     let z : Bytes c.args.file.now = record { byte = λ i. (c.type_inv.file i).fits } in
     let b = bounds c.args.file.now c.fill-f.result _ _ _ _ _ c.fill-f.ensures z c.if-f-ne0.false in
-    let k : length c.fill-f.new.edges ≡ length c.args.edges.now = c.fill-f.auto.edges in
-    let h : c.fill-f.result.counts.edges ≤ length c.fill-f.new.edges = omega (arith, b.edges, k, c.requires.edges_lent) in
-    h
+    omega (arith, b.edges, c.fill-f.auto.edges, c.requires.edges_lent)
 
 pub slice_bounds-judged-end-4 : goal.slice_bounds-judged-end-4
 slice_bounds-judged-end-4 c =
     let z : Bytes c.args.file.now = record { byte = λ i. (c.type_inv.file i).fits } in
     let b = bounds c.args.file.now c.fill-f.result _ _ _ _ _ c.fill-f.ensures z c.if-f-ne0.false in
-    let k : length c.fill-f.new.edges ≡ length c.args.edges.now = c.fill-f.auto.edges in
-    let h : c.fill-f.result.counts.edges ≤ length c.fill-f.new.edges = omega (arith, b.edges, k, c.requires.edges_lent) in
-    sym (length-take-le c.fill-f.result.counts.edges c.fill-f.new.edges h)
+    sym (length-take-le _ c.fill-f.new.edges (omega (arith, b.edges, c.fill-f.auto.edges, c.requires.edges_lent)))
 
 pub slice_bounds-judged-end-5 : goal.slice_bounds-judged-end-5
 slice_bounds-judged-end-5 c =
     let z : Bytes c.args.file.now = record { byte = λ i. (c.type_inv.file i).fits } in
     let b = bounds c.args.file.now c.fill-f.result _ _ _ _ _ c.fill-f.ensures z c.if-f-ne0.false in
-    let k : length c.fill-f.new.choices ≡ length c.args.choices.now = c.fill-f.auto.choices in
-    let h : c.fill-f.result.counts.choices ≤ length c.fill-f.new.choices = omega (arith, b.choices, k, c.requires.choices_lent) in
-    h
+    omega (arith, b.choices, c.fill-f.auto.choices, c.requires.choices_lent)
 
 pub slice_bounds-judged-end-6 : goal.slice_bounds-judged-end-6
 slice_bounds-judged-end-6 c =
     let z : Bytes c.args.file.now = record { byte = λ i. (c.type_inv.file i).fits } in
     let b = bounds c.args.file.now c.fill-f.result _ _ _ _ _ c.fill-f.ensures z c.if-f-ne0.false in
-    let k : length c.fill-f.new.choices ≡ length c.args.choices.now = c.fill-f.auto.choices in
-    let h : c.fill-f.result.counts.choices ≤ length c.fill-f.new.choices = omega (arith, b.choices, k, c.requires.choices_lent) in
-    sym (length-take-le c.fill-f.result.counts.choices c.fill-f.new.choices h)
+    sym (length-take-le _ c.fill-f.new.choices (omega (arith, b.choices, c.fill-f.auto.choices, c.requires.choices_lent)))
 
 pub slice_bounds-judged-end-7 : goal.slice_bounds-judged-end-7
 slice_bounds-judged-end-7 c =
     let z : Bytes c.args.file.now = record { byte = λ i. (c.type_inv.file i).fits } in
     let b = bounds c.args.file.now c.fill-f.result _ _ _ _ _ c.fill-f.ensures z c.if-f-ne0.false in
-    let k : length c.fill-f.new.texts ≡ length c.args.texts.now = c.fill-f.auto.texts in
-    let h : c.fill-f.result.counts.texts ≤ length c.fill-f.new.texts = omega (arith, b.texts, k, c.requires.texts_lent) in
-    h
+    omega (arith, b.texts, c.fill-f.auto.texts, c.requires.texts_lent)
 
 pub slice_bounds-judged-end-8 : goal.slice_bounds-judged-end-8
 slice_bounds-judged-end-8 c =
     let z : Bytes c.args.file.now = record { byte = λ i. (c.type_inv.file i).fits } in
     let b = bounds c.args.file.now c.fill-f.result _ _ _ _ _ c.fill-f.ensures z c.if-f-ne0.false in
-    let k : length c.fill-f.new.texts ≡ length c.args.texts.now = c.fill-f.auto.texts in
-    let h : c.fill-f.result.counts.texts ≤ length c.fill-f.new.texts = omega (arith, b.texts, k, c.requires.texts_lent) in
-    sym (length-take-le c.fill-f.result.counts.texts c.fill-f.new.texts h)
+    sym (length-take-le _ c.fill-f.new.texts (omega (arith, b.texts, c.fill-f.auto.texts, c.requires.texts_lent)))
 
 pub slice_bounds-judged-end-9 : goal.slice_bounds-judged-end-9
 slice_bounds-judged-end-9 c =
     let z : Bytes c.args.file.now = record { byte = λ i. (c.type_inv.file i).fits } in
     let b = bounds c.args.file.now c.fill-f.result _ _ _ _ _ c.fill-f.ensures z c.if-f-ne0.false in
-    let k : length c.fill-f.new.bytes ≡ length c.args.bytes.now = c.fill-f.auto.bytes in
-    let h : c.fill-f.result.counts.bytes ≤ length c.fill-f.new.bytes = omega (arith, b.bytes, k, c.requires.bytes_lent) in
-    h
+    omega (arith, b.bytes, c.fill-f.auto.bytes, c.requires.bytes_lent)
 
 pub slice_bounds-judged-end-10 : goal.slice_bounds-judged-end-10
 slice_bounds-judged-end-10 c =
     let z : Bytes c.args.file.now = record { byte = λ i. (c.type_inv.file i).fits } in
     let b = bounds c.args.file.now c.fill-f.result _ _ _ _ _ c.fill-f.ensures z c.if-f-ne0.false in
-    let k : length c.fill-f.new.bytes ≡ length c.args.bytes.now = c.fill-f.auto.bytes in
-    let h : c.fill-f.result.counts.bytes ≤ length c.fill-f.new.bytes = omega (arith, b.bytes, k, c.requires.bytes_lent) in
-    sym (length-take-le c.fill-f.result.counts.bytes c.fill-f.new.bytes h)
+    sym (length-take-le _ c.fill-f.new.bytes (omega (arith, b.bytes, c.fill-f.auto.bytes, c.requires.bytes_lent)))
 
 pub judged-w-requires : goal.judged-w-requires
 judged-w-requires c =

@@ -1,33 +1,20 @@
-use mathlib.Core.Path.{refl, sym}
+use mathlib.Core.Path.{refl}
 use native.Mathlib.Omega.{arith}
 use lib.Seq.{length-take-le}
 use Rattle.prepare.specs.Writing.{order}
 use Rattle.prepare.proofs.Written.{writes_map}
 use Rattle.prepare.proofs.write.write.Goals as goal
+use Rattle.prepare.proofs.write.write.Goals.{then-nodes-a-via-then-nodes-a, then-nodes-a-via-else-nodes-a+then-edges-b, then-nodes-a-via-else-nodes-a+else-edges-b+then-choices-c, then-nodes-a-via-else-nodes-a+else-edges-b+else-choices-c+then-texts-d}
 
 pub returns-then-nodes-a : goal.returns-then-nodes-a
-returns-then-nodes-a c = order (λ l. omega (arith, l.nodes_lent, c.if-nodes-a.true)) refl
-
-pub returns-then-edges-b : goal.returns-then-edges-b
-returns-then-edges-b c = order (λ l. omega (arith, l.edges_lent, c.if-edges-b.true)) refl
-
-pub returns-then-choices-c : goal.returns-then-choices-c
-returns-then-choices-c c = order (λ l. omega (arith, l.choices_lent, c.if-choices-c.true)) refl
-
-pub returns-then-texts-d : goal.returns-then-texts-d
-returns-then-texts-d c = order (λ l. omega (arith, l.texts_lent, c.if-texts-d.true)) refl
-
-pub slice_bounds-write_cut-end : goal.slice_bounds-write_cut-end
-slice_bounds-write_cut-end c = sym (length-take-le c.args.n.nodes c.args.nodes.now c.if-nodes-a.false)
-
-pub slice_bounds-write_cut-end-2 : goal.slice_bounds-write_cut-end-2
-slice_bounds-write_cut-end-2 c = sym (length-take-le c.args.n.edges c.args.edges.now c.if-edges-b.false)
-
-pub slice_bounds-write_cut-end-3 : goal.slice_bounds-write_cut-end-3
-slice_bounds-write_cut-end-3 c = sym (length-take-le c.args.n.choices c.args.choices.now c.if-choices-c.false)
-
-pub slice_bounds-write_cut-end-4 : goal.slice_bounds-write_cut-end-4
-slice_bounds-write_cut-end-4 c = sym (length-take-le c.args.n.texts c.args.texts.now c.if-texts-d.false)
+returns-then-nodes-a c =
+    rw c.refused.ensures
+    (order (λ l. elim c.then-nodes-a.branch [
+      | then-nodes-a-via-then-nodes-a w ↦ omega (arith, l.nodes_lent)
+      | then-nodes-a-via-else-nodes-a+then-edges-b w ↦ omega (arith, l.edges_lent)
+      | then-nodes-a-via-else-nodes-a+else-edges-b+then-choices-c w ↦ omega (arith, l.choices_lent)
+      | then-nodes-a-via-else-nodes-a+else-edges-b+else-choices-c+then-texts-d w ↦ omega (arith, l.texts_lent)
+    ]) refl)
 
 pub write_cut-requires : goal.write_cut-requires
 write_cut-requires c =

@@ -7,7 +7,7 @@ pub returns-then-f-ne0 : goal.returns-then-f-ne0
 returns-then-f-ne0 c =
     let a = c.args in
     let e = c.tables_fault-f.ensures.by_index a.edges.now a.choices.now a.bytes.now a.n.root.0 a.n.space.0 c.requires.cut.edges_cut c.requires.cut.choices_cut in
-    answer_ill _ _ c.requires.bytes_len a.out.now c.tables_fault-f.result e c.if-f-ne0.true
+    rw c.refused.ensures (answer_ill _ _ c.requires.bytes_len a.out.now c.tables_fault-f.result e c.if-f-ne0.true)
 
 pub judged-w-requires : goal.judged-w-requires
 judged-w-requires c =
@@ -19,7 +19,7 @@ pub returns-then-w-ne0 : goal.returns-then-w-ne0
 returns-then-w-ne0 c =
     let a = c.args in
     let e = c.tables_fault-f.ensures.by_index a.edges.now a.choices.now a.bytes.now a.n.root.0 a.n.space.0 c.requires.cut.edges_cut c.requires.cut.choices_cut in
-    wrong c.judged-w.result c.requires.bytes_len (sym e ∙ c.if-f-ne0.false) c.if-w-ne0.true c.judged-w.ensures refl
+    rw c.refused-then-w-ne0.ensures (wrong c.judged-w.result c.requires.bytes_len (sym e ∙ c.if-f-ne0.false) c.if-w-ne0.true c.judged-w.ensures refl)
 
 pub write_right-requires : goal.write_right-requires
 write_right-requires c =

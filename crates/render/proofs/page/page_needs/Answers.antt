@@ -1,4 +1,3 @@
-use borrow.Author.Rules.{rules}
 use Rattle.render.proofs.page.page_needs.Goals as goal
 
 pub returns : goal.returns

@@ -1,2 +1,0 @@
-pub mod Element
-pub mod Lent

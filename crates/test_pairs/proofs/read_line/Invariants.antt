@@ -1,8 +1,0 @@
-use Rattle.std.proofs.Common.{◌-◌, ◌≤◌}
-use Rattle.test_pairs.proofs.read_line.Given as goal
-
-abbrev pub invariant-loop-m : goal.invariant-loop-m
-invariant-loop-m g l = l.m ≤ 256
-
-abbrev pub decreases-loop-m : goal.decreases-loop-m
-decreases-loop-m g l = 256 - l.m
