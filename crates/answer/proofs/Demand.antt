@@ -33,7 +33,7 @@ promised_of file c (found_refusal l) = right_refusal (machine_numbered l)
 module _ {lent : Type 0} {file : List ℕ} {c : Settings} {b : Bounds} (z : Bytes file) where
   pub promised : {a : Answer} → Answers lent file c b a → Promised file c a
   promised (out_of_order n) = right_refusal {n = 1} (listed (omega arith) (omega arith))
-  promised (wrong_file n o m) = let h = file_faults m in right_refusal {n = n} (listed (omega (arith, h.0)) (omega (arith, h.1)))
+  promised (wrong_file n o m) = let h = file_faults m in right_refusal (listed (omega (arith, h.0)) (omega (arith, h.1)))
   promised (laid_out o m) = promised_of file c (answer_right (rules_of c) (charging_lawful c.rule c.width c.newline_cost c.policy) (document_of file) (means_ready file z m) b)
 
   pub page_right : {r : Rendered} {k : Counts} → Answers lent file c b (paged r k) → RulesPage file c r

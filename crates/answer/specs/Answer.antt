@@ -3,6 +3,8 @@ use Rattle.std.specs.Prelude.{List, ℕ, ◌≤◌}
 use Rattle.layout.specs.Rules.{Rules, charging}
 use Rattle.file_form.specs.Form.{tables_of, counts_of}
 use Rattle.std.specs.Prelude.{Ok, Err}
+use Rattle.refusals.specs.declared.Refusal.{Refusal}
+use Rattle.refusals.specs.Numbers.{number_of}
 use Rattle.prepare.specs.File.{Means}
 use Rattle.machine_input.specs.Reading.{prepared}
 use Rattle.machine.specs.Events.{Bounds, no_counts}
@@ -38,5 +40,5 @@ lent_as w o = record { wide = o.wide; policy_known = o.policy_known; rule_known 
 -- For 1 to 10 the needed size and all counts are 0; from 11 on the answer is that of solver and materializer under the sizes and limits
 pub data Answers (lent : Type 0) (file : List ℕ) (c : Settings) (b : Bounds) : Answer → Type 0 where
   out_of_order : (Ordered lent c → ⊥) → Answers lent file c b (refused 1 0 no_counts)
-  wrong_file : (n : ℕ) → Ordered lent c → Means file (Err n) → Answers lent file c b (refused n 0 no_counts)
+  wrong_file : (p : Refusal) → Ordered lent c → Means file (Err p) → Answers lent file c b (refused (number_of p) 0 no_counts)
   laid_out : Ordered lent c → Means file (Ok (counts_of file)) → Answers lent file c b (answer (rules_of c) (document_of file) b)

@@ -8,6 +8,7 @@ use Rattle.file_utf8.specs.Bytewise.{more, low, high, rest, well}
 use Rattle.file_utf8.proofs.Rows.{utf8_well}
 use Rattle.file_checks.specs.Texts.{text_bytes, TextsOk}
 use Rattle.file_checks.specs.Judged.{Judged, text, space}
+use Rattle.refusals.specs.declared.Refusal.TheVariants.{Text, Space}
 use Rattle.prepare.specs.File.{wrong}
 use Rattle.machine.specs.Events.{Bounds, no_counts}
 use Rattle.machine.specs.Answer.{Answer, paged, refused}
@@ -57,8 +58,8 @@ pub wide_space : (b : Bounds) → Answers (Unit {0}) wide_file at_80 b (refused 
 unfolding bytes_of sound texted
 wide_space b =
     let r = file_read wide_tables wide_file refl refl in
-    wrong_file 8 (record { wide = omega arith; policy_known = omega arith; rule_known = (omega arith, omega arith); lent_enough = tt })
-    (wrong 8 r.0 (λ e. omega arith) (subst (λ (t : Tables). Judged t 8) (sym r.1) (space (references_right wide_tables refl) (texts_right wide_tables refl) (λ s. let e = s.wide in omega arith))))
+    wrong_file Space (record { wide = omega arith; policy_known = omega arith; rule_known = (omega arith, omega arith); lent_enough = tt })
+    (wrong Space r.0 (subst (λ (t : Tables). Judged t 8) (sym r.1) (space (references_right wide_tables refl) (texts_right wide_tables refl) (λ s. let e = s.wide in omega arith))))
 
 -- ---- texts that are not UTF-8: 7
 
@@ -69,8 +70,8 @@ ill_text :
 ill_text t file i e s h w b =
     let r = file_read t file e s in
     let n : TextsOk t.texts t.bytes → ⊥ = λ z. false≢true (sym w ∙ (utf8_well (text_bytes t.texts t.bytes i)).0 (z.each i h).well_formed) in
-    wrong_file 7 (record { wide = omega arith; policy_known = omega arith; rule_known = (omega arith, omega arith); lent_enough = tt })
-    (wrong 7 r.0 (λ z. omega arith) (subst (λ (x : Tables). Judged x 7) (sym r.1) (text (references_right t s) n)))
+    wrong_file Text (record { wide = omega arith; policy_known = omega arith; rule_known = (omega arith, omega arith); lent_enough = tt })
+    (wrong Text r.0 (subst (λ (x : Tables). Judged x 7) (sym r.1) (text (references_right t s) n)))
 
 -- one Empty, and a space text that is the byte 128: 7 comes before 8
 abbrev ill_space_file : List ℕ

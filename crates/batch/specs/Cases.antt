@@ -2,6 +2,8 @@
 use Rattle.std.specs.Prelude.{Err, refl, List, [], ◌∷◌, ℕ, ◌+◌}
 use Rattle.std.proofs.Math.Option.{none as no_parent}
 use Rattle.std.proofs.Common.{arith}
+use Rattle.refusals.specs.declared.Refusal.{Refusal}
+use Rattle.refusals.specs.Numbers.{number_of}
 use Rattle.file_tables.specs.Tables.{Tables, tables}
 use Rattle.prepare.specs.File.{Means}
 use Rattle.machine.specs.Events.{Bounds, no_counts}
@@ -52,12 +54,12 @@ pub no_byte_left : Shift 0 at_80 (lending 1 0) (two 10 0 0 0) (a_file ∷ bytes_
 unfolding bytes_of sound texted tried
 no_byte_left = first (served tt (omega arith) (worked a_tables refl refl refl refl refl)) (first (served tt (omega arith) (worked n_tables refl refl refl refl refl)) none)
 
--- a document that the reader refuses, by whatever number: without counts; the work of `a` stays charged
-pub no_file : (file : List ℕ) (n : ℕ) → Means file (Err n) → Shift 0 at_80 (lending 2 0) (two 10 0 0 0) (a_file ∷ file ∷ []) (a_page ∷ refused n 0 no_counts ∷ []) (lending 1 0) (two 10 2 0 0)
+-- a document that the reader refuses, by whatever refusal: without counts; the work of `a` stays charged
+pub no_file : (file : List ℕ) (p : Refusal) → Means file (Err p) → Shift 0 at_80 (lending 2 0) (two 10 0 0 0) (a_file ∷ file ∷ []) (a_page ∷ refused (number_of p) 0 no_counts ∷ []) (lending 1 0) (two 10 2 0 0)
 unfolding bytes_of sound texted tried
-no_file file n m =
+no_file file p m =
     first (served tt (omega arith) (worked a_tables refl refl refl refl refl))
-    (first (served tt (omega arith) (wrong_file n (record { wide = omega arith; policy_known = omega arith; rule_known = (omega arith, omega arith); lent_enough = tt }) m)) none)
+    (first (served tt (omega arith) (wrong_file p (record { wide = omega arith; policy_known = omega arith; rule_known = (omega arith, omega arith); lent_enough = tt }) m)) none)
 
 -- allowance 3: a page; 12 after 1; 12 at once
 pub spent_between : Shift 0 at_80 (lending 9 0) (two 3 0 0 0) (a_file ∷ a_file ∷ a_file ∷ []) (a_page ∷ stopped ∷ refused 12 0 no_counts ∷ []) (lending 8 0) (two 3 3 0 0)

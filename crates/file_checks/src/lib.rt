@@ -5,12 +5,14 @@ ghost use Rattle.std.specs.Prelude.{◌≤◌, length};
 ghost use Rattle.file_checks.specs.Descent.{Closed};
 ghost use Rattle.file_checks.specs.Search.{ListsInside, GraphJudged};
 ghost use Rattle.file_checks.specs.Judged.{tables, Formed, Judged};
+ghost use Rattle.refusals.specs.Numbers.{told};
 
 use crate::circle::circle;
 use crate::lists::lists_right;
 use crate::names::references;
 use crate::texts::{space_ok, texts_ok};
 use file_tables::{NodeId, TextId};
+use refusals::Refusal;
 
 pub mod circle;
 pub mod lists;
@@ -27,31 +29,31 @@ pub struct Lengths {
     pub annotations: u32,
 }
 
-// 9, 10 or 0.
+// 9 or 10, or neither.
 fn judge_graph(
     nodes: &[[u32; 8]],
     edges: &[u32],
     choices: &[u32],
     colours: &mut [u8],
     stack: &mut [u32],
-) -> u32
+) -> Result<(), Refusal>
     requires nodes_len_bound { length nodes.now ≤ 4096 }
     requires closed { Closed nodes.now edges.now }
     requires lists_inside { ListsInside nodes.now choices.now }
     requires nodes_in_bounds { length nodes.now ≤ length colours.old }
     requires choices_in_bounds { length choices.now ≤ length stack.old }
-    ensures { GraphJudged nodes.now edges.now choices.now result }
+    ensures { GraphJudged nodes.now edges.now choices.now (told result) }
 {
     if circle(nodes, edges, colours) {
-        return 9;
+        return Err(Refusal::Circle);
     }
     if !lists_right(nodes, choices, stack) {
-        return 10;
+        return Err(Refusal::List);
     }
-    0
+    Ok(())
 }
 
-// The first refusal of 6 to 10, or 0. Of the working memory, `colours` has a place for each node and `stack` one for each choice edge;
+// The first refusal of 6 to 10. Of the working memory, `colours` has a place for each node and `stack` one for each choice edge;
 // what stands there at entry does not matter.
 pub fn judge(
     nodes: &[[u32; 8]],
@@ -64,20 +66,20 @@ pub fn judge(
     space: TextId,
     colours: &mut [u8],
     stack: &mut [u32],
-) -> u32
+) -> Result<(), Refusal>
     requires formed { Formed (tables nodes.now edges.now choices.now texts.now bytes.now annotations root.0 space.0) }
     requires nodes_in_bounds { length nodes.now ≤ length colours.old }
     requires choices_in_bounds { length choices.now ≤ length stack.old }
-    ensures { Judged (tables nodes.now edges.now choices.now texts.now bytes.now annotations root.0 space.0) result }
+    ensures { Judged (tables nodes.now edges.now choices.now texts.now bytes.now annotations root.0 space.0) (told result) }
 {
     if !references(nodes, edges, choices, texts, annotations, root, space) {
-        return 6;
+        return Err(Refusal::Reference);
     }
     if !texts_ok(texts, bytes) {
-        return 7;
+        return Err(Refusal::Text);
     }
     if !space_ok(texts, bytes, space) {
-        return 8;
+        return Err(Refusal::Space);
     }
     judge_graph(nodes, edges, choices, colours, stack)
 }

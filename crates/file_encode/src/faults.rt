@@ -2,9 +2,11 @@
 ghost use Rattle.std.specs.Prelude.{◌≡◌, ◌≤◌, length};
 ghost use Rattle.file_tables.specs.Tables.{byte_start};
 ghost use Rattle.file_encode.specs.Encode.{node_map, Wide};
-ghost use Rattle.file_encode.specs.Faults.{node_is_right, nodes_fault, texts_fault, or_else, count_fault, header_fault};
+ghost use Rattle.file_encode.specs.Faults.{node_is_right, nodes_fault, texts_fault, count_fault, header_fault};
+ghost use Rattle.refusals.specs.Numbers.{told};
 
 use file_form::kinds::{map_right, pair_right};
+use refusals::Refusal;
 
 // The map byte of a node's row.
 #[tactic(auto, unfolding(crate::specs::Encode::node_map, crate::specs::Encode::map_of))]
@@ -29,16 +31,16 @@ pub fn node_right(row: [u32; 8]) -> bool
 }
 
 #[tactic(auto, using(crate::proofs::Laws::nodes_wrong, crate::proofs::Laws::nodes_on, crate::proofs::Laws::nodes_end))]
-pub fn nodes_fault(nodes: &[[u32; 8]]) -> u32
-    ensures value { result ≡ nodes_fault nodes.now }
-    ensures wide { result ≡ 0 → Wide 8 nodes.now (length nodes.now) }
+pub fn nodes_fault(nodes: &[[u32; 8]]) -> Result<(), Refusal>
+    ensures value { told result ≡ nodes_fault nodes.now }
+    ensures wide { told result ≡ 0 → Wide 8 nodes.now (length nodes.now) }
 {
     for row in nodes {
         if !node_right(*row) {
-            return 3;
+            return Err(Refusal::Form);
         }
     }
-    0
+    Ok(())
 }
 
 // Where a text's bytes start.
@@ -49,42 +51,40 @@ pub fn text_start(row: [u32; 3]) -> usize
 }
 
 #[tactic(auto, using(crate::proofs::Laws::texts_start, crate::proofs::Laws::texts_limit, crate::proofs::Laws::texts_on, crate::proofs::Laws::texts_end))]
-pub fn texts_fault(texts: &[[u32; 3]]) -> u32
-    ensures value { result ≡ texts_fault 0 texts.now }
-    ensures wide { result ≡ 0 → Wide 3 texts.now (length texts.now) }
+pub fn texts_fault(texts: &[[u32; 3]]) -> Result<(), Refusal>
+    ensures value { told result ≡ texts_fault 0 texts.now }
+    ensures wide { told result ≡ 0 → Wide 3 texts.now (length texts.now) }
 {
     let mut total: usize = 0;
     for row in texts {
         if text_start(*row) != total {
-            return 3;
+            return Err(Refusal::Form);
         }
         total += row[1] as usize;
         if total > 65536 {
-            return 4;
+            return Err(Refusal::Limit);
         }
     }
-    0
+    Ok(())
 }
 
-pub fn or_else(a: u32, b: u32) -> u32
-    ensures { result ≡ or_else a b }
+pub fn count_fault(low: u32, high: u32, n: u32) -> Result<(), Refusal>
+    ensures { told result ≡ count_fault low high n }
 {
-    if a == 0 { b } else { a }
-}
-
-pub fn count_fault(low: u32, high: u32, n: u32) -> u32
-    ensures { result ≡ count_fault low high n }
-{
-    if n < low || high < n { 4 } else { 0 }
+    if n < low || high < n {
+        Err(Refusal::Limit)
+    } else {
+        Ok(())
+    }
 }
 
 #[tactic(auto, unfolding(crate::specs::Faults::header_fault))]
-pub fn header_fault(n: u32, e: u32, x: u32, a: u32, c: u32) -> u32
-    ensures { result ≡ header_fault n e x a c }
+pub fn header_fault(n: u32, e: u32, x: u32, a: u32, c: u32) -> Result<(), Refusal>
+    ensures { told result ≡ header_fault n e x a c }
 {
-    let choices = count_fault(0, 16384, c);
-    let annotations = or_else(count_fault(0, 4096, a), choices);
-    let texts = or_else(count_fault(1, 4096, x), annotations);
-    let edges = or_else(count_fault(0, 16384, e), texts);
-    or_else(count_fault(1, 4096, n), edges)
+    count_fault(1, 4096, n)?;
+    count_fault(0, 16384, e)?;
+    count_fault(1, 4096, x)?;
+    count_fault(0, 4096, a)?;
+    count_fault(0, 16384, c)
 }

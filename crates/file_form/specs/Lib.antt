@@ -5,3 +5,4 @@ pub mod Nodes
 pub mod Numbers
 pub mod Texts
 pub mod Form
+pub mod Faults

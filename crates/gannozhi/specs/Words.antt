@@ -4,6 +4,8 @@ use Rattle.std.proofs.Common.{sym, ap, ◌∙◌, subst, arith}
 use Rattle.stats.specs.declared.SolveStats.{SolveStats}
 use Rattle.solve_workspace.specs.declared.Bounds.{Bounds}
 use Rattle.solve_workspace.specs.declared.RenderOptions.{RenderOptions}
+use Rattle.refusals.specs.declared.Refusal.{Refusal}
+use Rattle.refusals.specs.Numbers.{number_of}
 use Rattle.file_form.specs.declared.fill.Counts.{Counts}
 use Rattle.prepare.specs.declared.write.FileCounts.{FileCounts}
 use Rattle.prepare.specs.declared.write.Unwritten.{Unwritten}
@@ -67,25 +69,25 @@ abbrev pub table_words : Counts → List ℕ
 table_words n = n.nodes ∷ n.edges ∷ n.choices ∷ n.texts ∷ n.annotations ∷ n.root.0 ∷ n.space.0 ∷ n.bytes ∷ []
 
 -- the refusal's number, or 0 for an accepted file, whose counts are put; a refusal leaves the lent words as they were
-abbrev pub read_number : Result Counts ℕ → ℕ
+abbrev pub read_number : Result Counts Refusal → ℕ
 read_number (Ok n) = 0
-read_number (Err k) = k
+read_number (Err p) = number_of p
 
-abbrev pub read_words : Result Counts ℕ → List ℕ → List ℕ
+abbrev pub read_words : Result Counts Refusal → List ℕ → List ℕ
 read_words (Ok n) was = table_words n
-read_words (Err k) was = was
+read_words (Err p) was = was
 
 -- the refusal's number, or 0 for a written file; how many bytes were written, or are needed (0 where no size is too small)
 abbrev pub write_number : Result ℕ Unwritten → ℕ
 write_number (Ok k) = 0
-write_number (Err e) = e.number
+write_number (Err e) = number_of e.refusal
 
 abbrev pub write_size : Result ℕ Unwritten → ℕ
 write_size (Ok k) = k
 write_size (Err e) = e.needed
 
 pub record Read (s : List ℕ) (lent : Type 0) (nodes : List (List ℕ)) (edges choices : List ℕ) (texts : List (List ℕ)) (bytes was counts : List ℕ) (number : ℕ) : Type 0 where
-  pub told : Result Counts ℕ
+  pub told : Result Counts Refusal
   pub reads : Reads s lent nodes edges choices texts bytes told
   pub counts_are : counts ≡ read_words told was
   pub number_is : number ≡ read_number told

@@ -18,6 +18,7 @@ use file_form::fill::Counts;
 use file_tables::{NodeId, TextId};
 use prepare::read::read;
 use prepare::write::{FileCounts, Unwritten, write};
+use refusals::Refusal;
 
 // A file's page for a desk, or why there is none. The words of the desks are eight allowances, then eight spent counts, kept between calls.
 #[unsafe(no_mangle)]
@@ -67,16 +68,16 @@ pub extern "C" fn gannozhi_render(
 
 // ---- reader and writer
 
-fn read_number(a: Result<Counts, u32>) -> u32
+fn read_number(a: Result<Counts, Refusal>) -> u32
     ensures { result ≡ read_number a }
 {
     match a {
         Ok(_) => 0,
-        Err(number) => number,
+        Err(refusal) => refusal.number(),
     }
 }
 
-fn read_words(a: Result<Counts, u32>, was: [u32; 8]) -> [u32; 8]
+fn read_words(a: Result<Counts, Refusal>, was: [u32; 8]) -> [u32; 8]
     ensures { result ≡ read_words a was }
 {
     match a {
@@ -131,7 +132,7 @@ fn write_number(o: Result<usize, Unwritten>) -> u32
 {
     match o {
         Ok(_) => 0,
-        Err(e) => e.number,
+        Err(e) => e.refusal.number(),
     }
 }
 

@@ -1,5 +1,5 @@
 -- What the parts of `read` say of the whole.
-use mathlib.Core.Path.{◌≡◌, sym, ◌∙◌}
+use mathlib.Core.Path.{◌≡◌, refl, sym, ◌∙◌}
 use mathlib.Core.List.{List}
 use Prim.Native.Nat.{ℕ, ◌≤◌}
 use native.Mathlib.Omega.{arith}
@@ -13,9 +13,17 @@ use Rattle.file_encode.specs.Fields.{Bytes}
 use Rattle.file_encode.specs.TextTrip.{texts_total}
 use Rattle.file_encode.specs.Trips.{Encoded, encoded, Right, tables_right, texts_inside}
 use Rattle.file_checks.specs.Judged.{Formed, Judged}
-use Rattle.std.specs.Prelude.{Ok, Err}
+use Rattle.std.specs.Prelude.{Result, Ok, Err}
+use Rattle.std.specs.Result.{IsErrAnd}
+use Rattle.std.proofs.lemmas.Result.{err_from_is_err_and}
+use Rattle.refusals.specs.declared.Refusal.{Refusal}
+use Rattle.refusals.specs.Numbers.{number_of}
 use Rattle.prepare.specs.File.{ill, wrong, right, Reads, refused, accepted}
 pub use Rattle.prepare.specs.Laws.{held_is}
+
+-- what a `?` hands on
+pub err_is : {A E : Type 0} {r : Result A E} {d : E} → IsErrAnd r (λ (e : E). e ≡ d) → r ≡ Err d
+err_is {r = r} h = let p = err_from_is_err_and r h in rw (p.1, p.2) refl
 
 -- the counts of an accepted file, each within its limit
 pub record Bounds (n : Counts) : Type 0 where
@@ -56,11 +64,11 @@ module _ (s : List ℕ) (f : Filled) (ns : List (List ℕ)) (es xs : List ℕ) (
   pub few : Bytes s → f.fault ≡ 0 → length (take f.counts.choices xs) ≤ 16384
   few z e = let k = encoded s z (well e) in rw (g.counts, g.held.choice_list) (tables_right (tables_of s) k.right).within.choices_high
 
-  pub answer_ill : {lent : Type 0} → lent → (f.fault ≡ 0 → ⊥) → Reads s lent ns es xs ts bs (Err f.fault)
-  answer_ill l n = rw g.fault (refused (form_fault s) l (ill (λ e. n (g.fault ∙ e))))
+  pub answer_ill : {lent : Type 0} → lent → (p : Refusal) → number_of p ≡ f.fault → Reads s lent ns es xs ts bs (Err p)
+  answer_ill l p e = refused p l (ill p (sym (e ∙ g.fault)))
 
-  pub answer_wrong : {lent : Type 0} → lent → f.fault ≡ 0 → (w : ℕ) → (w ≡ 0 → ⊥) → Judged (tables_held f.counts ns es xs ts bs) w → Reads s lent ns es xs ts bs (Err w)
-  answer_wrong l e w n j = refused w l (wrong w (well e) n (rw same at j))
+  pub answer_wrong : {lent : Type 0} → lent → f.fault ≡ 0 → (p : Refusal) → Judged (tables_held f.counts ns es xs ts bs) (number_of p) → Reads s lent ns es xs ts bs (Err p)
+  answer_wrong l e p j = refused p l (wrong p (well e) (rw same at j))
 
-  pub answer_right : {lent : Type 0} → lent → f.fault ≡ 0 → (w : ℕ) → w ≡ 0 → Judged (tables_held f.counts ns es xs ts bs) w → Reads s lent ns es xs ts bs (Ok f.counts)
-  answer_right l e w z j = rw g.counts (accepted l (right (well e) (rw (same, z) at j)) g.held)
+  pub answer_right : {lent : Type 0} → lent → f.fault ≡ 0 → Judged (tables_held f.counts ns es xs ts bs) 0 → Reads s lent ns es xs ts bs (Ok f.counts)
+  answer_right l e j = rw g.counts (accepted l (right (well e) (rw same at j)) g.held)

@@ -3,15 +3,18 @@ use Rattle.std.specs.Prelude.{ℕ, ◌≤◌, ◌≡◌, List, Result, Ok, Err}
 use Rattle.file_form.specs.Form.{form_fault, tables_of, counts_of, Holds}
 use Rattle.file_checks.specs.Judged.{Judged}
 use Rattle.file_form.specs.declared.fill.Counts.{Counts}
+use Rattle.refusals.specs.declared.Refusal.{Refusal}
+use Rattle.refusals.specs.declared.Refusal.TheVariants.{Order}
+use Rattle.refusals.specs.Numbers.{number_of}
 
--- what `read` answers: the counts of a file that is accepted, or the number of its refusal
+-- what `read` answers: the counts of a file that is accepted, or its refusal
 abbrev pub Answer : Type 0
-Answer = Result Counts ℕ
+Answer = Result Counts Refusal
 
 -- a byte string is ill-formed (2 to 5, the first in order), or its tables are refused by the first of 6 to 10, or it is accepted
 pub data Means (s : List ℕ) : Answer → Type 0 where
-  ill : (form_fault s ≡ 0 → ⊥) → Means s (Err (form_fault s))
-  wrong : (n : ℕ) → form_fault s ≡ 0 → (n ≡ 0 → ⊥) → Judged (tables_of s) n → Means s (Err n)
+  ill : (r : Refusal) → form_fault s ≡ number_of r → Means s (Err r)
+  wrong : (r : Refusal) → form_fault s ≡ 0 → Judged (tables_of s) (number_of r) → Means s (Err r)
   right : form_fault s ≡ 0 → Judged (tables_of s) 0 → Means s (Ok (counts_of s))
 
 -- each table is lent at its limit
@@ -25,8 +28,8 @@ pub record TablesLent (nodes edges choices texts bytes : ℕ) : Type 0 where
 -- the answer to a file s, with lent tables of these lengths, and the tables at exit: a table lent shorter than its limit is 1, before everything;
 -- else the answer is what s means; after an acceptance the tables hold exactly those of s up to the counts, after a refusal anything
 pub data Reads (s : List ℕ) (lent : Type 0) (nodes : List (List ℕ)) (edges choices : List ℕ) (texts : List (List ℕ)) (bytes : List ℕ) : Answer → Type 0 where
-  order : (lent → ⊥) → Reads s lent nodes edges choices texts bytes (Err 1)
-  refused : (n : ℕ) → lent → Means s (Err n) → Reads s lent nodes edges choices texts bytes (Err n)
+  order : (lent → ⊥) → Reads s lent nodes edges choices texts bytes (Err Order)
+  refused : (r : Refusal) → lent → Means s (Err r) → Reads s lent nodes edges choices texts bytes (Err r)
   accepted :
       lent
       → Means s (Ok (counts_of s))

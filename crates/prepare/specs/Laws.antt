@@ -14,6 +14,9 @@ use Rattle.file_encode.specs.Trips.{Counted, Encoded, encoded, reads_back}
 use Rattle.file_encode.proofs.AsRead.{alike}
 use Rattle.file_checks.proofs.Exactly.{judged_one}
 use Rattle.file_checks.specs.Judged.{Judged, Accepted as Kept, reference, text, space, circle, list, accepted}
+use Rattle.refusals.specs.declared.Refusal.{Refusal}
+use Rattle.refusals.specs.declared.Refusal.TheVariants.{Output}
+use Rattle.refusals.specs.Laws.{number_one, number_some}
 use Rattle.prepare.specs.declared.write.FileCounts.{FileCounts}
 use Rattle.prepare.specs.File.{Answer, Means, ill, wrong, right, Reads, order as unlent, refused as not_read, accepted as was_read}
 use Rattle.prepare.specs.Writing.{Outcome, unwritten, Writes, order, ill as not_formed, wrong as not_kept, room, written, file_counts, lent_tables, LentAt}
@@ -22,14 +25,14 @@ use Rattle.prepare.specs.Writing.{Outcome, unwritten, Writes, order, ill as not_
 
 -- a byte string means one thing
 pub means_one : {s : List ℕ} {a b : Answer} → Means s a → Means s b → a ≡ b
-means_one (ill n) (ill m) = refl
-means_one (ill n) (wrong k e z j) = absurd (n e)
-means_one (ill n) (right e j) = absurd (n e)
-means_one (wrong k e z j) (ill n) = absurd (n e)
-means_one (wrong k e z j) (wrong l f y i) = ap Err (judged_one j i)
-means_one (wrong k e z j) (right f i) = absurd (z (judged_one j i))
-means_one (right e j) (ill n) = absurd (n e)
-means_one (right e j) (wrong k f z i) = absurd (z (judged_one i j))
+means_one (ill p n) (ill q m) = ap Err (number_one p q (sym n ∙ m))
+means_one (ill p n) (wrong q e j) = absurd (number_some p (sym n ∙ e))
+means_one (ill p n) (right e j) = absurd (number_some p (sym n ∙ e))
+means_one (wrong p e j) (ill q n) = absurd (number_some q (sym n ∙ e))
+means_one (wrong p e j) (wrong q f i) = ap Err (number_one p q (judged_one j i))
+means_one (wrong p e j) (right f i) = absurd (number_some p (judged_one j i))
+means_one (right e j) (ill q n) = absurd (number_some q (sym n ∙ e))
+means_one (right e j) (wrong q f i) = absurd (number_some q (judged_one i j))
 means_one (right e j) (right f i) = refl
 
 -- an accepted file is well formed: no refusal of 2 to 5, and all that 6 to 10 ask
@@ -157,8 +160,8 @@ lent_at s ns es xs ts bs e h =
 again : {lent : Type 0} {out out' : List ℕ} (s : List ℕ) (t : Tables) {r : Outcome} → lent → encode t ≡ s → tables_fault t ≡ 0 → Judged t 0 → length s ≤ length out → Writes t lent out out' r
     → (r ≡ Ok (length s)) × (out' ≡ s ++ drop (length s) out)
 again s t l f e j h (order n g) = absurd (n l)
-again s t l f e j h (not_formed m n g) = absurd (n e)
-again s t l f e j h (not_kept k m z n i g) = absurd (n (judged_one i j))
+again s t l f e j h (not_formed p m n g) = absurd (number_some p (sym n ∙ e))
+again s t l f e j h (not_kept p m z i g) = absurd (number_some p (judged_one i j))
 again s t l f e j h (room m z i k g) = absurd (omega (arith, ap length f))
 again s t l f e j h (written m y z i k g) = rw (← f) (refl, g)
 
@@ -177,36 +180,30 @@ written_again {out = out} {out' = out'} {r = r} s ns es xs ts bs z m h k w =
 
 -- what the writer answers to tables, by what the reader says of their file s: the same refusal, or 20 where there is no room, or all is written
 pub data AsRead (s : List ℕ) : Outcome → Type 0 where
-  refused_too : (n : ℕ) → Means s (Err n) → AsRead s (unwritten n 0)
-  no_room : Means s (Ok (counts_of s)) → AsRead s (unwritten 20 (length s))
+  refused_too : (p : Refusal) → Means s (Err p) → AsRead s (unwritten p 0)
+  no_room : Means s (Ok (counts_of s)) → AsRead s (unwritten Output (length s))
   all_written : Means s (Ok (counts_of s)) → AsRead s (Ok (length s))
 
 -- of tables that bytes can say. The rest (`Sayable`: a kind past a byte, a malformed flat mark, a text that starts elsewhere) is 3 at its place in the order of the file
 pub as_read : {t : Tables} {lent : Type 0} {out out' : List ℕ} {r : Outcome} → Sayable t → lent → Writes t lent out out' r → AsRead (encode t) r
 as_read y l (order n g) = absurd (n l)
-as_read {t} y l (not_formed m n g) =
-    let e = alike t y in
-    subst (λ (k : ℕ). AsRead (encode t) (unwritten k 0)) e (refused_too (form_fault (encode t)) (ill (λ z. n (sym e ∙ z))))
-as_read {t} y l (not_kept k m z n j g) = let b = reads_back t y.sized z in refused_too k (wrong k b.fine n (rw b.tables j))
+as_read {t} y l (not_formed p m n g) = refused_too p (ill p (alike t y ∙ n))
+as_read {t} y l (not_kept p m z j g) = let b = reads_back t y.sized z in refused_too p (wrong p b.fine (rw b.tables j))
 as_read {t} y l (room m z j h g) = let b = reads_back t y.sized z in no_room (right b.fine (rw b.tables j))
 as_read {t} y l (written m s z j h g) = let b = reads_back t y.sized z in all_written (right b.fine (rw b.tables j))
 
--- the writer refuses by n (3, 4, 6 to 10) exactly where the reader refuses the file by n
-pub refused_as_read : {t : Tables} {lent : Type 0} {out out' : List ℕ} {n k : ℕ} → Sayable t → lent → Writes t lent out out' (unwritten n k) → (n ≡ 20 → ⊥) → Means (encode t) (Err n)
+-- the writer refuses by p (3, 4, 6 to 10) exactly where the reader refuses the file by p
+pub refused_as_read : {t : Tables} {lent : Type 0} {out out' : List ℕ} {p : Refusal} {k : ℕ} → Sayable t → lent → Writes t lent out out' (unwritten p k) → (p ≡ Output → ⊥) → Means (encode t) (Err p)
 refused_as_read y l w f = go (as_read y l w) f
   where
-    go : {s : List ℕ} {n k : ℕ} → AsRead s (unwritten n k) → (n ≡ 20 → ⊥) → Means s (Err n)
-    go (refused_too n m) f = m
+    go : {s : List ℕ} {p : Refusal} {k : ℕ} → AsRead s (unwritten p k) → (p ≡ Output → ⊥) → Means s (Err p)
+    go (refused_too p m) f = m
     go (no_room m) f = absurd (f refl)
 
-pub refuses_as_read : {t : Tables} {lent : Type 0} {out out' : List ℕ} {r : Outcome} {n : ℕ} → Sayable t → lent → Writes t lent out out' r → Means (encode t) (Err n) → r ≡ unwritten n 0
+pub refuses_as_read : {t : Tables} {lent : Type 0} {out out' : List ℕ} {r : Outcome} {p : Refusal} → Sayable t → lent → Writes t lent out out' r → Means (encode t) (Err p) → r ≡ unwritten p 0
 refuses_as_read y l w m = go (as_read y l w) m
   where
-    number : Answer → ℕ
-    number (Ok c) = 0
-    number (Err n) = n
-
-    go : {s : List ℕ} {r : Outcome} {n : ℕ} → AsRead s r → Means s (Err n) → r ≡ unwritten n 0
-    go (refused_too k q) m = ap (λ (x : ℕ). unwritten x 0) (ap number (means_one q m))
+    go : {s : List ℕ} {r : Outcome} {p : Refusal} → AsRead s r → Means s (Err p) → r ≡ unwritten p 0
+    go (refused_too q n) m = let e = means_one n m in let z : ◌≡◌ {A = Refusal} q _ = cc in ap (λ (x : Refusal). unwritten x 0) z
     go (no_room q) m = let e = means_one q m in let z : ◌≡◌ {A = ℕ} 0 1 = cc in absurd (omega arith)
     go (all_written q) m = let e = means_one q m in let z : ◌≡◌ {A = ℕ} 0 1 = cc in absurd (omega arith)

@@ -7,13 +7,19 @@ use Rattle.file_encode.specs.Faults.{tables_fault}
 use Rattle.file_checks.specs.Judged.{Judged}
 use Rattle.prepare.specs.declared.write.FileCounts.{FileCounts}
 use Rattle.prepare.specs.declared.write.Unwritten.{Unwritten}
+use Rattle.refusals.specs.declared.Refusal.{Refusal}
+use Rattle.refusals.specs.declared.Refusal.TheVariants.{Order, Output}
+use Rattle.refusals.specs.Numbers.{number_of}
 
 -- what `write` answers: how many bytes were written, or the refusal
 abbrev pub Outcome : Type 0
 Outcome = Result ℕ Unwritten
 
-abbrev pub unwritten : ℕ → ℕ → Outcome
-unwritten n k = Err (record { number = n; needed = k })
+abbrev pub refusing : Refusal → ℕ → Unwritten
+refusing r k = record { refusal = r; needed = k }
+
+abbrev pub unwritten : Refusal → ℕ → Outcome
+unwritten r k = Err (refusing r k)
 
 -- the counts that a file has are those that were read, but for the number of its text bytes, which is the sum of the lengths
 abbrev pub file_counts : Counts → FileCounts
@@ -53,16 +59,16 @@ pub record Cut (n : FileCounts) (nodes : List (List ℕ)) (edges choices : List 
 -- as the reader refuses their file; then 20 with the file's length where the lent bytes are too few. A refusal alters no byte.
 -- Otherwise t is as tables stand in memory, and the bytes begin with the file of t and are unaltered past it
 pub data Writes (t : Tables) (lent : Type 0) (out out' : List ℕ) : Outcome → Type 0 where
-  order : (lent → ⊥) → out' ≡ out → Writes t lent out out' (unwritten 1 0)
-  ill : lent → (tables_fault t ≡ 0 → ⊥) → out' ≡ out → Writes t lent out out' (unwritten (tables_fault t) 0)
-  wrong : (k : ℕ) → lent → tables_fault t ≡ 0 → (k ≡ 0 → ⊥) → Judged t k → out' ≡ out → Writes t lent out out' (unwritten k 0)
+  order : (lent → ⊥) → out' ≡ out → Writes t lent out out' (unwritten Order 0)
+  ill : (r : Refusal) → lent → tables_fault t ≡ number_of r → out' ≡ out → Writes t lent out out' (unwritten r 0)
+  wrong : (r : Refusal) → lent → tables_fault t ≡ 0 → Judged t (number_of r) → out' ≡ out → Writes t lent out out' (unwritten r 0)
   room :
       lent
       → tables_fault t ≡ 0
       → Judged t 0
       → length out < length (encode t)
       → out' ≡ out
-      → Writes t lent out out' (unwritten 20 (length (encode t)))
+      → Writes t lent out out' (unwritten Output (length (encode t)))
   written :
       lent
       → Sized t

@@ -1,15 +1,17 @@
 // The reader: 1, then 2 to 5 field by field, then 6 to 10 over the whole file.
-ghost use Rattle.std.specs.Prelude.{◌≤◌, length};
+ghost use Rattle.std.specs.Prelude.{◌≡◌, ◌≤◌, length};
 ghost use Rattle.file_tables.specs.Tables.{tables};
 ghost use Rattle.file_checks.specs.Judged.{Formed, Judged};
 ghost use Rattle.file_checks.specs.Told.{Told};
 ghost use Rattle.prepare.specs.File.{TablesLent, Reads};
+ghost use Rattle.refusals.specs.Numbers.{told};
 
 use file_checks::judge;
 use file_form::fill::{Counts, fill};
 use file_tables::{NodeId, TextId};
+use refusals::Refusal;
 
-// The first refusal of 6 to 10, or 0, with working memory of its own.
+// The first refusal of 6 to 10, with working memory of its own.
 pub fn judged(
     nodes: &[[u32; 8]],
     edges: &[u32],
@@ -19,10 +21,10 @@ pub fn judged(
     annotations: u32,
     root: NodeId,
     space: TextId,
-) -> u32
+) -> Result<(), Refusal>
     requires formed { Formed (tables nodes.now edges.now choices.now texts.now bytes.now annotations root.0 space.0) }
     requires choices_len_bound { length choices.now ≤ 16384 }
-    ensures { Judged (tables nodes.now edges.now choices.now texts.now bytes.now annotations root.0 space.0) result }
+    ensures { Judged (tables nodes.now edges.now choices.now texts.now bytes.now annotations root.0 space.0) (told result) }
 {
     let mut colours = [0u8; 4096];
     let mut stack = [0u32; 16384];
@@ -40,6 +42,20 @@ pub fn judged(
     )
 }
 
+// The refusal of a file's form by its number, 2 to 5 (0: none).
+fn form_told(fault: u32) -> Result<(), Refusal>
+    requires { (fault ≡ 0 → ⊥) → (2 ≤ fault) × (fault ≤ 5) }
+    ensures { told result ≡ fault }
+{
+    match fault {
+        0 => Ok(()),
+        2 => Err(Refusal::Short),
+        3 => Err(Refusal::Form),
+        4 => Err(Refusal::Limit),
+        _ => Err(Refusal::Surplus),
+    }
+}
+
 // A file into tables that are lent at their limits.
 pub fn read_lent(
     file: &[u8],
@@ -48,16 +64,14 @@ pub fn read_lent(
     choices: &mut [u32],
     texts: &mut [[u32; 3]],
     bytes: &mut [u8],
-) -> Result<Counts, u32>
+) -> Result<Counts, Refusal>
     requires { TablesLent (length nodes.old) (length edges.old) (length choices.old) (length texts.old) (length bytes.old) }
     ensures { Reads file.now (TablesLent (length nodes.old) (length edges.old) (length choices.old) (length texts.old) (length bytes.old)) nodes.new edges.new choices.new texts.new bytes.new result }
 {
     let f = fill(file, nodes, edges, choices, texts, bytes);
-    if f.fault != 0 {
-        return Err(f.fault);
-    }
+    form_told(f.fault)?;
     let n = f.counts;
-    let w = judged(
+    judged(
         &nodes[..n.nodes as usize],
         &edges[..n.edges as usize],
         &choices[..n.choices as usize],
@@ -66,10 +80,7 @@ pub fn read_lent(
         n.annotations,
         n.root,
         n.space,
-    );
-    if w != 0 {
-        return Err(w);
-    }
+    )?;
     Ok(n)
 }
 
@@ -87,7 +98,7 @@ pub fn read(
     choices: &mut [u32],
     texts: &mut [[u32; 3]],
     bytes: &mut [u8],
-) -> Result<Counts, u32>
+) -> Result<Counts, Refusal>
     ensures { Reads file.now (TablesLent (length nodes.old) (length edges.old) (length choices.old) (length texts.old) (length bytes.old)) nodes.new edges.new choices.new texts.new bytes.new result }
 {
     if !tables_lent(
@@ -97,7 +108,7 @@ pub fn read(
         texts.len(),
         bytes.len(),
     ) {
-        return Err(1);
+        return Err(Refusal::Order);
     }
     read_lent(file, nodes, edges, choices, texts, bytes)
 }

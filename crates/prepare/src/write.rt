@@ -4,13 +4,15 @@ ghost use Rattle.file_encode.specs.Encode.{lengths, Wide, Sized};
 ghost use Rattle.file_encode.specs.Faults.{tables_fault};
 ghost use Rattle.file_tables.specs.Tables.{tables};
 ghost use Rattle.file_checks.specs.Judged.{Judged};
-ghost use Rattle.prepare.specs.Writing.{file_counts, lent_tables, LentAt, Cut, Writes, unwritten};
+ghost use Rattle.prepare.specs.Writing.{file_counts, lent_tables, LentAt, Cut, Writes, refusing};
+ghost use Rattle.refusals.specs.Numbers.{told};
 
 use crate::read::judged;
-use file_encode::faults::{header_fault, nodes_fault, or_else, texts_fault};
+use file_encode::faults::{header_fault, nodes_fault, texts_fault};
 use file_form::fill::Counts;
 use file_put::{put_tables, text_total};
 use file_tables::{NodeId, TextId};
+use refusals::Refusal;
 
 // The counts that a file has, and its root and space text. How many bytes the texts have together is not among them: the lengths say it.
 #[derive(Clone, Copy)]
@@ -42,26 +44,28 @@ pub fn file_counts(n: Counts) -> FileCounts
 // The refusal and, for 20, how many bytes the file has.
 #[derive(Clone, Copy)]
 pub struct Unwritten {
-    pub number: u32,
+    pub refusal: Refusal,
     pub needed: usize,
 }
 
 // A refusal for which the length of `out` does not matter.
-fn refused(number: u32) -> Result<usize, Unwritten>
-    ensures { result ≡ unwritten number 0 }
-{
-    Err(Unwritten { number, needed: 0 })
+impl From<Refusal> for Unwritten {
+    ghost from_gives = { λ r u. u ≡ refusing r 0 };
+
+    fn from(refusal: Refusal) -> Unwritten {
+        Unwritten { refusal, needed: 0 }
+    }
 }
 
-// The first refusal of 3 and 4, or 0.
-fn tables_fault(n: FileCounts, nodes: &[[u32; 8]], texts: &[[u32; 3]]) -> u32
+// The first refusal of 3 and 4.
+fn tables_fault(n: FileCounts, nodes: &[[u32; 8]], texts: &[[u32; 3]]) -> Result<(), Refusal>
     requires { (length nodes.now ≡ n.nodes) × (length texts.now ≡ n.texts) }
-    ensures by_index { (edges choices bytes : List ℕ) (root space : ℕ) → length edges ≡ n.edges → length choices ≡ n.choices → result ≡ tables_fault (tables nodes.now edges choices texts.now bytes n.annotations root space) }
-    ensures wide { result ≡ 0 → Wide 8 nodes.now (length nodes.now) × Wide 3 texts.now (length texts.now) }
+    ensures by_index { (edges choices bytes : List ℕ) (root space : ℕ) → length edges ≡ n.edges → length choices ≡ n.choices → told result ≡ tables_fault (tables nodes.now edges choices texts.now bytes n.annotations root space) }
+    ensures wide { told result ≡ 0 → Wide 8 nodes.now (length nodes.now) × Wide 3 texts.now (length texts.now) }
 {
-    let h = header_fault(n.nodes, n.edges, n.texts, n.annotations, n.choices);
-    let rest = or_else(nodes_fault(nodes), texts_fault(texts));
-    or_else(h, rest)
+    header_fault(n.nodes, n.edges, n.texts, n.annotations, n.choices)?;
+    nodes_fault(nodes)?;
+    texts_fault(texts)
 }
 
 // Tables that are refused by nothing but 20. The file is measured by putting it where there is no room for it.
@@ -95,7 +99,7 @@ fn write_right(
     );
     if out.len() < size {
         return Err(Unwritten {
-            number: 20,
+            refusal: Refusal::Output,
             needed: size,
         });
     }
@@ -127,11 +131,8 @@ fn write_tables(
     requires bytes_len { length bytes.now ≡ lengths texts.now }
     ensures { Writes (tables nodes.now edges.now choices.now texts.now bytes.now n.annotations n.root.0 n.space.0) (length bytes.now ≡ lengths texts.now) out.old out.new result }
 {
-    let f = tables_fault(n, nodes, texts);
-    if f != 0 {
-        return refused(f);
-    }
-    let w = judged(
+    tables_fault(n, nodes, texts)?;
+    judged(
         nodes,
         edges,
         choices,
@@ -140,10 +141,7 @@ fn write_tables(
         n.annotations,
         n.root,
         n.space,
-    );
-    if w != 0 {
-        return refused(w);
-    }
+    )?;
     write_right(n, nodes, edges, choices, texts, bytes, out)
 }
 
@@ -162,7 +160,7 @@ fn write_cut(
 {
     let total = text_total(texts);
     if bytes.len() < total {
-        return refused(1);
+        return Err(Refusal::Order.into());
     }
     write_tables(n, nodes, edges, choices, texts, &bytes[..total], out)
 }
@@ -184,7 +182,7 @@ pub fn write(
     let c = n.choices as usize;
     let d = n.texts as usize;
     if nodes.len() < a || edges.len() < b || choices.len() < c || texts.len() < d {
-        return refused(1);
+        return Err(Refusal::Order.into());
     }
     write_cut(
         n,

@@ -5,6 +5,8 @@ use mathlib.Core.List.{List}
 use Prim.Native.Nat.{ℕ}
 use native.Mathlib.Omega.{arith}
 use lib.ListN.{take}
+use Rattle.refusals.specs.declared.Refusal.{Refusal}
+use Rattle.refusals.specs.Numbers.{number_of}
 use Rattle.file_tables.specs.Tables.{Tables}
 use Rattle.file_form.specs.declared.fill.Counts.{Counts}
 use Rattle.file_form.specs.Form.{tables_of, counts_of, Holds}
@@ -76,12 +78,12 @@ module _ (s : List ℕ) (lent : Type 0) (nodes : List (List ℕ)) (edges choices
         (laid_out (in_order i) (left n g e).means)
 
     -- a refused one
-    pub refused_answers : lent → (k : ℕ) → a ≡ Err k → Answers (InOrder o b l) s (settings o) (limits b) (refusal k 0 no_counts)
+    pub refused_answers : lent → (k : Refusal) → a ≡ Err k → Answers (InOrder o b l) s (settings o) (limits b) (refusal (number_of k) 0 no_counts)
     refused_answers h k e = go g e
       where
-        go : {x : FileAnswer} → Reads s lent nodes edges choices texts bytes x → x ≡ Err k → Answers (InOrder o b l) s (settings o) (limits b) (refusal k 0 no_counts)
+        go : {x : FileAnswer} → Reads s lent nodes edges choices texts bytes x → x ≡ Err k → Answers (InOrder o b l) s (settings o) (limits b) (refusal (number_of k) 0 no_counts)
         go (order f) q = absurd (f h)
-        go (refused j y m) q = let p : j ≡ k = cc in subst (λ (v : ℕ). Answers (InOrder o b l) s (settings o) (limits b) (refusal v 0 no_counts)) p (wrong_file j (in_order i) m)
+        go (refused j y m) q = let p : j ≡ k = cc in subst (λ (v : Refusal). Answers (InOrder o b l) s (settings o) (limits b) (refusal (number_of v) 0 no_counts)) p (wrong_file j (in_order i) m)
         go (accepted y m w) q = let z : ◌≡◌ {A = ℕ} 0 1 = cc in absurd (omega arith)
 
 -- lent memory or options that are not as 1 asks

@@ -1,11 +1,13 @@
 -- Laws for the whole call: from the right answer, and what stands in output and span rows, all that a call promises.
 use Rattle.std.specs.Prelude.{Ok, Err}
-use mathlib.Core.Path.{◌≡◌, refl, sym, subst}
+use mathlib.Core.Path.{◌≡◌, refl, sym, ap, ◌∙◌, subst}
 use mathlib.Core.List.{List}
 use Prim.Native.Nat.{ℕ, ◌≤◌}
 use native.Mathlib.Omega.{arith}
 use lib.ListN.{length, take}
 use lib.Seq.{length-take-le}
+use Rattle.refusals.specs.declared.Refusal.{Refusal as Named}
+use Rattle.refusals.specs.Numbers.{number_of}
 use Rattle.file_encode.specs.Fields.{Bytes}
 use Rattle.file_form.specs.declared.fill.Counts.{Counts}
 use Rattle.prepare.specs.File.{Answer as FileAnswer, Reads}
@@ -75,8 +77,8 @@ module _ (file : List ℕ) (o : RenderOptions) (b : Bounds) (l : Lengths) (z : B
 
   module _ {lent : Type 0} {nodes : List (List ℕ)} {edges choices : List ℕ} {texts : List (List ℕ)} {bytes : List ℕ} {a : FileAnswer} (i : InOrder o b l) (g : Reads file lent nodes edges choices texts bytes a) {P X : List Row} {B : List ℕ} where
     -- a file that the reader refuses
-    pub file_half : lent → (n : ℕ) → a ≡ Err n → {x : Refusal} → x ≡ refusal_with n 0 none_counted → Half (Rendering file o b l) b P X B (Err x)
-    file_half h n e f = refused_half n (refused_answers file lent nodes edges choices texts bytes i g h n e) f
+    pub file_half : lent → (p : Named) → a ≡ Err p → {n : ℕ} → n ≡ number_of p → {x : Refusal} → x ≡ refusal_with n 0 none_counted → Half (Rendering file o b l) b P X B (Err x)
+    file_half h p e q f = refused_half (number_of p) (refused_answers file lent nodes edges choices texts bytes i g h p e) (f ∙ ap (λ (n : ℕ). refusal_with n 0 none_counted) q)
 
     -- a file that it accepts
     pub laid_half : (n : Counts) → a ≡ Ok n → (r : Drafted) → Half (Laid b (rules o) (prepared (tables_held n nodes edges choices texts bytes))) b P X B r → Half (Rendering file o b l) b P X B r

@@ -124,7 +124,7 @@ fn render_lent(
     ensures { (l : Sizes) → InOrder options b l → Half (Rendering file.now options b l) b plans.new texts.new bytes.new result }
 {
     match read_lent(file, nodes, edges, choices, texts, bytes) {
-        Err(number) => Err(Refusal::uncounted(number)),
+        Err(refusal) => Err(Refusal::uncounted(refusal.number())),
         Ok(n) => lay_out_held(
             options, b, n, nodes, edges, choices, texts, bytes, tasks, results, pending, index,
             entries, kept, frontier, plans, visit,

@@ -111,7 +111,7 @@ fn read_number(
 ) -> u32 {
     match read(file, nodes, edges, choices, texts, bytes) {
         Ok(_) => 0,
-        Err(number) => number,
+        Err(refusal) => refusal.number(),
     }
 }
 
@@ -192,7 +192,7 @@ fn write_number(m: u8, k: u8) -> u32 {
     };
     match write(n, &nodes, &none, &none, &texts, b" ", &mut out) {
         Ok(_) => 0,
-        Err(refusal) => refusal.number,
+        Err(unwritten) => unwritten.refusal.number(),
     }
 }
 

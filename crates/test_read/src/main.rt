@@ -46,7 +46,7 @@ fn tell<W: Write>(writer: &mut W, file: &[u8]) -> io::Result<()> {
                 writer.write_all(b"0 differs\n")
             }
         }
-        Err(number) => writeln!(writer, "{number}"),
+        Err(refusal) => writeln!(writer, "{}", refusal.number()),
     }
 }
 

@@ -13,7 +13,7 @@ const SPACE: [u32; 3] = [1, 1, 0];
 fn say<W: Write>(writer: &mut W, outcome: Result<usize, Unwritten>) -> io::Result<()> {
     match outcome {
         Ok(k) => writeln!(writer, "0 {k}"),
-        Err(Unwritten { number, needed }) => writeln!(writer, "{number} {needed}"),
+        Err(Unwritten { refusal, needed }) => writeln!(writer, "{} {needed}", refusal.number()),
     }
 }
 

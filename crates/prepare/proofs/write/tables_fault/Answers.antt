@@ -1,5 +1,19 @@
-use Rattle.prepare.proofs.Written.{fault_is, faults_none}
+use mathlib.Core.Path.{ap, ◌∙◌}
+use Rattle.file_tables.specs.Tables.{tables}
+use Rattle.refusals.specs.Numbers.{told}
+use Rattle.prepare.proofs.Reading.{err_is}
+use Rattle.prepare.proofs.Written.{header_first, nodes_first, texts_last}
 use Rattle.prepare.proofs.write.tables_fault.Goals as goal
 
-pub returns : goal.returns
-returns c = record { by_index = λ es xs bs root space le lx. fault_is _ es xs _ bs _ _ _ _ _ root space _ _ _ _ _ c.requires.0 le lx c.requires.1 c.header_fault-h.ensures c.nodes_fault.ensures.value c.texts_fault.ensures.value c.or_else-rest.ensures c.or_else.ensures; wide = λ e. let z = faults_none c.header_fault-h.result c.nodes_fault.result c.texts_fault.result c.or_else-rest.result c.or_else.result c.or_else-rest.ensures c.or_else.ensures e in (c.nodes_fault.ensures.wide z.0, c.texts_fault.ensures.wide z.1) }
+pub returns-in_err-header_fault-clause-by_index : goal.returns-in_err-header_fault-clause-by_index
+returns-in_err-header_fault-clause-by_index c es xs bs root space le lx =
+    ap told (err_is c.from_residual.ensures.1) ∙ header_first (tables c.args.nodes.now es xs c.args.texts.now bs c.args.n.annotations root space) _ (rw (c.requires.0, le, c.requires.1, lx) c.in_err-header_fault.ensures)
+
+pub returns-in_err-nodes_fault-clause-by_index : goal.returns-in_err-nodes_fault-clause-by_index
+returns-in_err-nodes_fault-clause-by_index c es xs bs root space le lx =
+    ap told (err_is c.from_residual-in_err-nodes_fault.ensures.1)
+    ∙ nodes_first (tables c.args.nodes.now es xs c.args.texts.now bs c.args.n.annotations root space) _ (rw (c.requires.0, le, c.requires.1, lx) c.in_ok-header_fault.ensures) c.in_err-nodes_fault.ensures.value
+
+pub returns-clause-by_index : goal.returns-clause-by_index
+returns-clause-by_index c es xs bs root space le lx =
+    texts_last (tables c.args.nodes.now es xs c.args.texts.now bs c.args.n.annotations root space) (rw (c.requires.0, le, c.requires.1, lx) c.in_ok-header_fault.ensures) c.in_ok-nodes_fault.ensures.value c.texts_fault.ensures.value

@@ -8,7 +8,7 @@ use Rattle.prepare.proofs.write.write.Goals.{then-nodes-a-via-then-nodes-a, then
 
 pub returns-then-nodes-a : goal.returns-then-nodes-a
 returns-then-nodes-a c =
-    rw c.refused.ensures
+    rw c.into.ensures
     (order (λ l. elim c.then-nodes-a.branch [
       | then-nodes-a-via-then-nodes-a w ↦ omega (arith, l.nodes_lent)
       | then-nodes-a-via-else-nodes-a+then-edges-b w ↦ omega (arith, l.edges_lent)

@@ -6,7 +6,7 @@ use Rattle.prepare.proofs.Written.{cut_is}
 use Rattle.prepare.proofs.write.write_cut.Goals as goal
 
 pub returns-then-bytes-total : goal.returns-then-bytes-total
-returns-then-bytes-total c = rw c.refused.ensures (order (λ l. omega (arith, l, c.if-bytes-total.true, c.text_total-total.ensures)) refl)
+returns-then-bytes-total c = rw c.into.ensures (order (λ l. omega (arith, l, c.if-bytes-total.true, c.text_total-total.ensures)) refl)
 
 pub slice_bounds-write_tables-end : goal.slice_bounds-write_tables-end
 slice_bounds-write_tables-end c = sym (length-take-le c.text_total-total.result c.args.bytes.now c.if-bytes-total.false)

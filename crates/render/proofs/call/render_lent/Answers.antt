@@ -9,7 +9,7 @@ read_lent-requires c = c.requires.0
 pub returns-in-Err : goal.returns-in-Err
 returns-in-Err c =
     let z : Bytes c.args.file.now = record { byte = λ i. (c.shared_slice_known-1.given i).fits } in
-    λ l i. file_half c.args.file.now c.args.options c.args.b l z i c.read_lent.ensures c.requires.0 _ c.in-Err.is c.uncounted.ensures
+    λ l i. file_half c.args.file.now c.args.options c.args.b l z i c.read_lent.ensures c.requires.0 _ c.in-Err.is c.number.ensures c.uncounted.ensures
 
 pub lay_out_held-requires : goal.lay_out_held-requires
 lay_out_held-requires c =
