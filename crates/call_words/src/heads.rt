@@ -22,6 +22,7 @@ pub fn head_words(h: Head) -> [u32; 5]
     [h.rows, h.width, h.newline_cost, h.policy, h.rule]
 }
 
+// The number is what C gets.
 pub fn opened_number(o: Result<Head, u32>) -> u32
     ensures { result ≡ opened_number o }
 {

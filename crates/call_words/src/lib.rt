@@ -81,6 +81,7 @@ pub fn answer_words(r: Rendered) -> [u64; 26]
     }
 }
 
+// The number is what C gets.
 pub fn answer_number(r: Rendered) -> u32
     ensures { result ≡ get_or (words r) 0 0 }
 {

@@ -23,7 +23,7 @@ pub enum Reason {
     Burden,
 }
 
-// The number of a refusal for what is past its width.
+// The number of a refusal for what is past its width. It stays a number: the definition `domain_number`, which is what the answers' numbers are, speaks of it.
 pub fn domain_number(reason: Reason) -> u32
     ensures { result ≡ domain_number reason }
 {

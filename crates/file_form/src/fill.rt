@@ -21,7 +21,7 @@ pub struct Counts {
     pub space: TextId,
 }
 
-// What was counted, and the first refusal of 2 to 5 (0: none).
+// What was counted, and the first refusal of 2 to 5 (0: none), beside each other: the counts are promised after a refusal too (`Filling`).
 #[derive(Clone, Copy)]
 pub struct Filled {
     pub counts: Counts,

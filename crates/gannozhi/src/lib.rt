@@ -66,7 +66,7 @@ pub extern "C" fn gannozhi_render(
     answer_number(r.answer)
 }
 
-// ---- reader and writer
+// ---- reader and writer: C gets numbers
 
 fn read_number(a: Result<Counts, Refusal>) -> u32
     ensures { result ≡ read_number a }

@@ -52,7 +52,7 @@ fn put_spaced_halves(out: &mut [u8], at: usize, high: u64, low: u64) -> usize
     put_halves(out, next, high, low)
 }
 
-// `refused N` at the front; the answer is how many bytes it has.
+// `refused N` at the front, by its number, as document 01 has the line; the answer is how many bytes it has.
 pub fn refused_line(out: &mut [u8], number: u32) -> usize
     requires { 32 ≤ length out.old }
     ensures { Front (refused_line number) out.new result }

@@ -39,7 +39,7 @@ pub enum PendingPlan {
     New(PlanNode),
 }
 
-// The kinds of a record.
+// The kinds of a record: numbers, since rows are lent memory of a fixed layout.
 const EMPTY: u32 = 0;
 
 const TEXT: u32 = 1;

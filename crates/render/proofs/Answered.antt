@@ -1,6 +1,6 @@
 -- Laws for the answers by value.
-use Rattle.std.specs.Prelude.{Result, Ok, Err}
-use Rattle.std.specs.Result.{IsErrAnd}
+use Rattle.std.specs.Prelude.{Result, Ok, Err, Some}
+use Rattle.std.specs.Result.{IsErrAnd, result_err}
 use Rattle.std.proofs.lemmas.Result.{err_from_is_err_and}
 use mathlib.Core.Path.{◌≡◌, refl, sym, ap, ap₂, ◌∙◌}
 use Prim.Native.Nat.{ℕ}
@@ -27,3 +27,8 @@ draft_page c x y {g = p} e f g = ap₂ (λ (k : SolveStats) (q : Needs). Ok (dra
 
 pub draft_refused : (c : SolvedCore) (x y : ℕ) {w : SolveStats} {m : Measured} {p : Passed} {n : ℕ} → m ≡ Err p → w ≡ with_counts c.stats p.visits → n ≡ number (why_of p.what) → Err (refusal_with n p.needed w) ≡ drafted c x y m
 draft_refused c x y {w} {m} {p} {n} e f g = ap₂ (λ (i : ℕ) (k : SolveStats). Err (refusal_with i p.needed k)) g f ∙ ap (λ (k : Measured). drafted c x y k) (sym e)
+
+-- an answer whose error is e (the edit byte_on_refusal cites it)
+pub err_told : {T E : Type 0} (r : Result T E) {e : E} → Some e ≡ result_err r → r ≡ Err e
+err_told (Ok x) p = cc
+err_told (Err x) p = cc

@@ -80,7 +80,7 @@ fn with_visits(stats: SolveStats, visits: u64) -> SolveStats
     }
 }
 
-// Document 01's number of what the materializer lacks.
+// Document 01's number of what the materializer lacks. It stays a number, as the definition `number` has it.
 fn page_number(e: Exhausted) -> u32
     ensures { result ≡ number (why_of e) }
 {

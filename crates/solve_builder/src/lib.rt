@@ -143,6 +143,7 @@ fn commit_all(
 {
     let mut k = g.kept;
     let mut n = g.plans;
+    // A while let: the survivors are linked, so there is no range to go over.
     let mut cursor = frontier::first(g.builder);
     while let Some(s) = cursor {
         n = commit(kept, plans, k, n, frontier::candidate(frontier, s));

@@ -1,4 +1,4 @@
-// The solver's stores in lent rows and its registers in lent words (laidout's RenderWorkspace), and what it means that code meets the machine.
+// The solver's stores in lent rows and its registers in one lent record (laidout's RenderWorkspace), and what it means that code meets the machine.
 // An operation takes only the slices that it touches; its contract holds for whatever the others are.
 #![tactic(auto)]
 
@@ -110,7 +110,7 @@ pub enum Why {
     Plans,
 }
 
-// The number of why the solver stops, by documents 01 and 02.
+// The number of why the solver stops, by documents 01 and 02. It stays a number, as the definition `number` has it.
 pub fn solver_number(why: Why) -> u32
     ensures { result ≡ number (reason why) }
 {
@@ -179,7 +179,7 @@ impl From<plan::Full> for Halt {
     }
 }
 
-// The same with the registers: what contracts say of a turn and the words then.
+// The same with the registers: what contracts say of an answer and the registers then.
 #[derive(Clone, Copy)]
 pub enum Reached {
     Go(Registers),
@@ -263,7 +263,7 @@ pub fn task_row(task: ExactTask) -> [u32; 9]
     }
 }
 
-// The task that a row holds.
+// The task that a row holds. Its kind stays a number there: rows are lent memory of a fixed layout.
 pub fn row_task(row: [u32; 9]) -> ExactTask
     ensures { meant result ≡ task_of row }
 {

@@ -35,6 +35,7 @@ impl SolveStats {
 }
 
 // What is counted one by one. Fit checks are left behind (their count is 0); the other counts of the record are set.
+// A selector stays: document 01 names the form, one counter of a lent record.
 #[derive(Clone, Copy)]
 pub enum SolveCounter {
     WorkItems,
