@@ -50,11 +50,14 @@ fn text_head(s: &[u8], total: usize, p: Step) -> Head
 }
 
 // The bytes of `src` at the front of `dst`, which starts at the current position.
+// Byte by byte: `copy_from_slice` would call memmove, which the library for C doesn't ask for.
 pub fn copy(src: &[u8], dst: &mut [u8])
     requires { length src.now ≤ length dst.old }
     ensures { dst.new ≡ src.now ++ drop (length src.now) dst.old }
 {
-    dst[..src.len()].copy_from_slice(src);
+    for i in 0..src.len() {
+        dst[i] = src[i];
+    }
 }
 
 fn text_bytes(s: &[u8], l: Step, total: usize, bytes: &mut [u8]) -> Step

@@ -206,6 +206,8 @@ fn write_drafted(
 
 // A file's page, or why there is none. A page goes to the front of `output`, its spans to the front of `spans`. All else that is lent by `&mut` is
 // tables and working memory, which may hold anything before and after.
+// Not inlined: a caller whose own arrays these are would clear some of them twice.
+#[inline(never)]
 pub fn render_core(
     file: &[u8],
     options: RenderOptions,

@@ -5,10 +5,8 @@ use Prim.Native.Nat.{ℕ, suc, ◌+◌, ◌≤◌, ◌<◌}
 use native.Mathlib.Nat.{add-zero}
 use native.Mathlib.Numerals.{add-one}
 use native.Mathlib.Omega.{arith}
-use borrow.Rule.Slice.PartMut.{put_mid}
-use Rattle.std.proofs.lemmas.Slice.{put_mid-paste}
-use lib.ListN.{length, get_or, set, take, drop, length-drop, get_or-map}
-use lib.Seq.{sets, length-sets, sets-eq, take-suc, take_all, length-take-le, get_or-drop, take_at, drop_at}
+use lib.ListN.{length, get_or, set, take, drop, get_or-map}
+use lib.Seq.{sets, length-sets, sets-eq, take-suc, length-take-le, get_or-drop, take_at, drop_at}
 
 -- the first i elements of s stand in l from a place on
 pub record Put {A : Type 0} (l : List A) (at : ℕ) (s : List A) (i : ℕ) (r : List A) : Type 0 where
@@ -36,13 +34,6 @@ put_more {A} {l} {s} {r} {at} {i} {x} d h g p = record {
 
 pub mapped_at : {A B : Type 0} (f : A → B) (l : List A) (n i : ℕ) (d : A) → get_or (map f (drop n l)) i (f d) ≡ f (get_or l (n + i) d)
 mapped_at f l n i d = get_or-map f (drop n l) i d ∙ ap f (get_or-drop n l i d)
-
--- a part of l is overwritten at once, with n elements of s; j and k are how a call says n
-pub put_part : {A : Type 0} (l s r : List A) (at from n j k : ℕ) → r ≡ take j (drop from s) → j ≡ n → k ≡ n → from + n ≤ length s → at + n ≤ length l → put_mid at k l r ≡ sets l at (take n (drop from s))
-put_part l s r at from n j k e f g h i =
-    let part = take n (drop from s) in
-    let long : length part ≡ n = length-take-le n (drop from s) (omega (arith, length-drop from s)) in
-    put_mid-paste at k l r part n (rw f at e) (sym g) (sym long) ∙ sym (sets-eq part l at (omega arith) ∙ rw (long, take_all n part (omega arith)))
 
 -- all of it
 pub put_end : {A : Type 0} {l s r : List A} {at i n : ℕ} → i ≡ n → Put l at s i r → r ≡ sets l at (take n s)

@@ -43,6 +43,16 @@ fn put_lead(k: usize, output: &mut [u8], at: usize) -> usize
     at + 1
 }
 
+// A row's page. It goes by bytes, since an archive for C has no memmove from outside.
+fn put_page(pages: &[u8], from: usize, len: usize, output: &mut [u8], at: usize)
+    requires { (from + len ≤ length pages.now) × (at + len ≤ length output.old) }
+    ensures { output.new ≡ sets output.old at (take len (drop from pages.now)) }
+{
+    for i in 0..len {
+        output[at + i] = pages[from + i];
+    }
+}
+
 // A row's spans, moved. They stand in spans where they stand in marks.
 fn put_marks(marks: &[[u32; 4]], n: usize, count: usize, spans: &mut [[u64; 4]], at: usize)
     requires { (n + count ≤ length marks.now) × (n + count ≤ length spans.old) × (at < 2 ^ 32) × (n + count < 2 ^ 32) }
@@ -72,7 +82,7 @@ pub fn deliver(
         let len = row[1] as usize;
         let count = row[2] as usize;
         let start = put_lead(k, output, at);
-        output[start..start + len].copy_from_slice(&pages[from..from + len]);
+        put_page(pages, from, len, output, start);
         put_marks(marks, n, count, spans, start);
         from += len;
         at = start + len;

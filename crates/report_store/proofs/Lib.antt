@@ -1,1 +1,2 @@
 pub mod Pastes
+pub mod Loops

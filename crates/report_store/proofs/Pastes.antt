@@ -1,16 +1,32 @@
 -- Laws of `paste`, for items of any type: what is before and after it, and that an insertion is two of them, a removal one.
-use mathlib.Core.Path.{◌≡◌, sym, ap, ◌∙◌}
-use mathlib.Core.List.{List, ◌++◌, map, append_assoc}
-use Prim.Native.Nat.{ℕ, ◌+◌, ◌-◌, ◌≤◌}
+use mathlib.Core.Path.{◌≡◌, sym, ap, ◌∙◌, subst}
+use mathlib.Core.List.{List, [], ◌∷◌, ◌++◌, map, append_assoc}
+use Prim.Native.Nat.{ℕ, suc, ◌+◌, ◌-◌, ◌≤◌, ◌<◌}
 use native.Mathlib.Omega.{arith}
-use lib.ListN.{length, take, drop, length-drop, length-map}
-use lib.Seq.{paste, take_at, drop_at, take-append-le, take-take, take-add, take-length, length-take-le, take-paste, drop-paste, length-paste}
+use lib.ListN.{length, get_or, set, take, drop, length-drop, length-map, get_or-append}
+use lib.Seq.{paste, take-suc, set_at, take_at, drop_at, take-append-le, take-take, take-add, take-length, length-take-le, get_or-take, get_or-drop, take-paste, drop-paste, length-paste}
 use Rattle.report.specs.Report.{insert_at, remove_at}
 use Rattle.report.specs.Lists.{drop_take, map_take}
 use Rattle.report_store.specs.Moves.{moved_up}
 
 module _ {A : Type 0} where
   -- ---- a paste's parts
+
+  pub get_or_before : (d : List A) (to : ℕ) (s : List A) (n i : ℕ) (z : A) → i < to → to ≤ length d → get_or (paste d to s n) i z ≡ get_or d i z
+  get_or_before d to s n i z h l =
+      ap (λ (r : List A). get_or r i z) (append_assoc (take to d) (take n s) (drop (to + n) d))
+      ∙ get_or-append (take to d) (take n s ++ drop (to + n) d) z i (omega (arith, length-take-le to d l))
+      ∙ get_or-take to d i z h
+
+  pub get_or_after : (d : List A) (to : ℕ) (s : List A) (n i : ℕ) (z : A) → to + n ≤ i → to ≤ length d → n ≤ length s → get_or (paste d to s n) i z ≡ get_or d i z
+  get_or_after d to s n i z h l k =
+      let e : to + n + (i - (to + n)) ≡ i = omega arith in
+      subst
+      (λ (j : ℕ). get_or (paste d to s n) j z ≡ get_or d j z)
+      e
+      (sym (get_or-drop (to + n) (paste d to s n) (i - (to + n)) z)
+      ∙ ap (λ (r : List A). get_or r (i - (to + n)) z) (drop-paste d to s n l k)
+      ∙ get_or-drop (to + n) d (i - (to + n)) z)
 
   take_before : (d : List A) (to : ℕ) (s : List A) (n i : ℕ) → i ≤ to → to ≤ length d → take i (paste d to s n) ≡ take i d
   take_before d to s n i h l =
@@ -23,6 +39,20 @@ module _ {A : Type 0} where
       ap (λ (r : List A). take n (drop to r)) (append_assoc (take to d) (take n s) (drop (to + n) d))
       ∙ ap (take n) (drop_at (take to d) (take n s ++ drop (to + n) d) to (length-take-le to d l))
       ∙ take_at (take n s) (drop (to + n) d) n (length-take-le n s k)
+
+  -- ---- one item more, before what is pasted
+
+  pub paste_front : (d : List A) (k : ℕ) (s : List A) (w : ℕ) (a : A) → k < length d → set (paste d (suc k) s w) k a ≡ paste d k (a ∷ s) (suc w)
+  paste_front d k s w a h =
+      let p : List A = take k d in
+      let r : List A = drop (k + suc w) d in
+      let x : A = get_or d k a in
+      let e : suc k + w ≡ k + suc w = omega arith in
+      let cut : paste d (suc k) s w ≡ p ++ x ∷ (take w s ++ r) =
+      rw (e, take-suc d k a h) (ap (λ (l : List A). l ++ r) (append_assoc p (x ∷ []) (take w s)) ∙ append_assoc p (x ∷ take w s) r) in
+      ap (λ (l : List A). set l k a) cut
+      ∙ set_at p x (take w s ++ r) a k (length-take-le k d (omega arith))
+      ∙ sym (append_assoc p (a ∷ take w s) r)
 
   -- ---- an insertion, a removal
 

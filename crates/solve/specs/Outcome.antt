@@ -45,6 +45,26 @@ with_nodes t n = record {
   visits = t.visits;
 }
 
+-- the counts without fit checks, which are not the solver's
+abbrev pub unfitted : SolveStats → SolveStats
+unfitted t = record {
+  work_items = t.work_items;
+  fit_checks = 0;
+  memo_hits = t.memo_hits;
+  memo_misses = t.memo_misses;
+  candidates_generated = t.candidates_generated;
+  candidates_pruned = t.candidates_pruned;
+  peak_frontier = t.peak_frontier;
+  memo_entries = t.memo_entries;
+  plan_nodes = t.plan_nodes;
+  visits = t.visits;
+}
+
+-- the counts that it tells
+abbrev pub stats_in : Solution → SolveStats
+stats_in (Ok c) = c.stats
+stats_in (Err u) = u.stats
+
 -- what the solver needed, in 32 bits each
 abbrev pub needs_low : Registers → SolverNeeds
 needs_low s = record { stack = low (needs_in s).stack; memo = low (needs_in s).memo; kept = low (needs_in s).kept; frontier = low (needs_in s).frontier; plans = low (needs_in s).plans }

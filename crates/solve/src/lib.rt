@@ -15,7 +15,7 @@ ghost use Rattle.solve_workspace.specs.Turns.{reached};
 ghost use Rattle.solve_workspace.specs.Reading.{prepared, tables, rules};
 ghost use Rattle.solve_execute.specs.Turn.{Room};
 ghost use Rattle.solve.specs.Accepted.{Accepted, Typed, MemoRoom, NeedsFit, Topped};
-ghost use Rattle.solve.specs.Outcome.{outcome, least_of, needs_low, Plans};
+ghost use Rattle.solve.specs.Outcome.{outcome, least_of, needs_low, Plans, unfitted, stats_in};
 ghost use Rattle.solve.specs.Numbered.{TextsBelow};
 
 use cost::ConsumerCost;
@@ -109,6 +109,16 @@ fn least_candidate(kept: &[[u64; 6]], count: usize, start: u32, len: u32) -> Can
     best
 }
 
+// The counts. Fit checks are not the solver's.
+fn stats_of(g: &Registers) -> SolveStats
+    ensures { result ≡ unfitted g.now.stats }
+{
+    SolveStats {
+        fit_checks: 0,
+        ..g.stats
+    }
+}
+
 // What was needed. Each has its place in 32 bits, since as much was lent.
 fn needs_of(g: &Registers) -> SolverNeeds
     requires { NeedsFit g.now }
@@ -127,6 +137,7 @@ fn take_best(g: &mut Registers, results: &[[u32; 2]], kept: &[[u64; 6]]) -> Solv
     requires { Topped g.old results.now kept.now }
     ensures meets { (b : Sizes) (R : Rules) (P : Prepared) (ts ps es : List Row) (fs : List ℕ) (ns : List Row) → run (limits b) (counts g.old) (best-taken R P (abs g.old ts results.now ps es kept.now fs ns)) ≡ outcome (Ok result) ns }
     ensures plans { result.plans ≡ g.old.plans }
+    ensures no_fit_checks { result.stats.fit_checks ≡ 0 }
 {
     let needs = needs_of(g);
     solve_workspace::pop_exact_result(g, results);
@@ -137,7 +148,7 @@ fn take_best(g: &mut Registers, results: &[[u32; 2]], kept: &[[u64; 6]]) -> Solv
         plans: g.plans,
         stats: SolveStats {
             plan_nodes: g.plans as u64,
-            ..g.stats
+            ..stats_of(g)
         },
         needs,
     }
@@ -236,6 +247,7 @@ pub fn solve(
     requires { Room b tasks.old results.old pending.old frontier.old kept.old plans.old × (MemoRoom b index.old entries.old × Accepted nodes.now edges.now choices.now texts.now space.0) }
     ensures meets { (bytes : List ℕ) (annotations : ℕ) → run (limits b) no_counts (solving (rules options) (prepared (tables nodes.now edges.now choices.now texts.now bytes annotations root.0 space.0))) ≡ outcome result plans.new }
     ensures arranged { (t : ℕ) → TextsBelow t (prepared (tables nodes.now edges.now choices.now texts.now [] 0 0 space.0)) → Plans t result plans.new }
+    ensures no_fit_checks { (stats_in result).fit_checks ≡ 0 }
 {
     let mut g = START;
     match run_tasks(
@@ -244,7 +256,7 @@ pub fn solve(
     ) {
         Err(halt) => Err(Unsolved {
             halt,
-            stats: g.stats,
+            stats: stats_of(&g),
         }),
         Ok(()) => Ok(take_best(&mut g, results, kept)),
     }

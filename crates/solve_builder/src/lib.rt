@@ -3,6 +3,8 @@
 #![tactic(auto)]
 
 ghost use Rattle.std.specs.Prelude.{◌≡◌, List, [], ◌∷◌, map, ◌+◌, ◌≤◌, ◌<◌, ◌^◌, length};
+ghost use Rattle.stats.specs.declared.SolveCounter.TheVariants.{WorkItems, CandidatesGenerated};
+ghost use Rattle.stats.specs.Counts.{bumped};
 ghost use Rattle.plan.specs.Arena.{room_for};
 ghost use Rattle.machine.specs.Model.{range, got};
 ghost use Rattle.machine.specs.Solver.{present as presenting, finish_builder, singleton as alone, additional_plans};
@@ -11,6 +13,7 @@ ghost use Rattle.solve_workspace.specs.Meets.{Meets, counts, Sound};
 ghost use Rattle.solve_workspace.specs.Rows.{Row, abs, plan_of, survivor, candidate_of};
 ghost use Rattle.solve_workspace.specs.Frames.{Keeps};
 ghost use Rattle.solve_workspace.specs.Turns.{reached};
+ghost use Rattle.solve_workspace.specs.Work.{with_stats};
 ghost use Rattle.solve_builder.specs.Building.{Building, BuildingAt, Begun, Slots};
 ghost use Rattle.solve_builder.specs.Committing.{kept_as, Commits, Committable, CommittableOne};
 
@@ -20,11 +23,21 @@ use solve_workspace::{Bounds, Halt, Registers, Why};
 
 // ---- presenting
 
+// A unit of work, and a candidate.
+#[tactic(auto, unfolding(stats::specs::Counts::bumped))]
+fn count_candidate(g: &mut Registers)
+    requires { (g.old.stats.work_items + 1 < 2 ^ 64) × (g.old.stats.candidates_generated + 1 < 2 ^ 64) }
+    ensures { g.new ≡ with_stats g.old (bumped (bumped g.old.stats WorkItems) CandidatesGenerated) }
+{
+    g.stats.work_items += 1;
+    g.stats.candidates_generated += 1;
+}
+
 // An empty frontier, whatever the slots hold. Of the one before it as many slots were needed as it used.
 pub fn begin_builder(g: &mut Registers)
     ensures { Begun g.old g.new }
 {
-    g.peaks.frontier = g.peaks.frontier.max(g.builder.used as usize);
+    solve_workspace::raise(&mut g.peaks.frontier, g.builder.used as usize);
     g.builder = frontier::begin_builder();
 }
 
@@ -50,9 +63,9 @@ pub fn present(
         precedence: g.stats.candidates_generated,
         ..c
     };
-    g.stats.work_items += 1;
-    g.stats.candidates_generated += 1;
-    let after = frontier::present(frontier, b.frontier as u64, g.builder, ranked)?;
+    let builder = g.builder;
+    count_candidate(g);
+    let after = frontier::present(frontier, b.frontier as u64, builder, ranked)?;
     g.builder = after.builder;
     g.stats.candidates_pruned += after.pruned;
     Ok(())

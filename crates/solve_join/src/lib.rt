@@ -50,7 +50,7 @@ fn push_pending(
         c.second,
     ];
     g.pending = top;
-    g.peaks.stack = g.peaks.stack.max(top);
+    solve_workspace::raise(&mut g.peaks.stack, top);
     Ok(())
 }
 

@@ -2,7 +2,7 @@
 // An operation takes only the slices that it touches; its contract holds for whatever the others are.
 #![tactic(auto)]
 
-ghost use Rattle.std.specs.Prelude.{◌≡◌, List, [], ℕ, ◌+◌, ◌≤◌, ◌<◌, ◌%◌, ◌^◌, length, get_or};
+ghost use Rattle.std.specs.Prelude.{◌≡◌, List, [], ℕ, ◌+◌, ◌≤◌, ◌<◌, ◌%◌, ◌^◌, max, length, get_or};
 ghost use Rattle.machine.specs.Events.{ret, Hit, Miss, number};
 ghost use Rattle.layout.specs.Rules.{Rules};
 ghost use Rattle.machine.specs.Model.{Prepared, range, scratch, no_candidate, got};
@@ -342,6 +342,15 @@ pub fn candidate_at(kept: &[[u64; 6]], count: usize, index: usize) -> Candidate
     }
 }
 
+// The peak is n at least. It is stored only where it grows, which a peak seldom does.
+pub fn raise(peak: &mut usize, n: usize)
+    ensures { peak.new ≡ max peak.old n }
+{
+    if *peak < n {
+        *peak = n;
+    }
+}
+
 // ---- stacks
 
 pub fn push_exact_task(
@@ -363,7 +372,7 @@ pub fn push_exact_task(
     }
     tasks[g.tasks] = task_row(task);
     g.tasks = top;
-    g.peaks.stack = g.peaks.stack.max(top);
+    raise(&mut g.peaks.stack, top);
     Ok(())
 }
 
@@ -387,7 +396,7 @@ pub fn push_exact_result(
     }
     results[g.results] = [start, len];
     g.results = top;
-    g.peaks.stack = g.peaks.stack.max(top);
+    raise(&mut g.peaks.stack, top);
     Ok(())
 }
 
@@ -496,7 +505,7 @@ pub fn memo_insert(
     let n = memo::memo_insert(index, entries, count, size, key, range)?;
     g.memo = n;
     g.stats.memo_entries = n as u64;
-    g.peaks.memo = g.peaks.memo.max(count + 1);
+    raise(&mut g.peaks.memo, count + 1);
     Ok(())
 }
 

@@ -8,6 +8,7 @@ use solve_workspace::{Bounds, Needs};
 use stats::SolveStats;
 use std::io;
 use std::io::Write;
+use streams::{print_decimal, print_hex};
 
 pub fn bounds_of(s: [u64; 9], l: [u64; 2]) -> Bounds {
     Bounds {
@@ -37,7 +38,8 @@ pub fn hand_on<W: Write>(writer: &mut W, input: &[u8], from: usize) -> io::Resul
 pub fn print_numbers<W: Write>(writer: &mut W, word: &[u8], numbers: &[u64]) -> io::Result<()> {
     writer.write_all(word)?;
     for n in numbers {
-        write!(writer, " {n}")?;
+        writer.write_all(b" ")?;
+        print_decimal(writer, *n)?;
     }
     writer.write_all(b"\n")
 }
@@ -79,24 +81,30 @@ fn print_page<W: Write>(writer: &mut W, output: &[u8], count: usize) -> io::Resu
         return writer.write_all(b"-\n");
     }
     for b in output.iter().take(count) {
-        write!(writer, "{b:02x}")?;
+        print_hex(writer, u64::from(*b), 2)?;
     }
     writer.write_all(b"\n")
 }
 
 fn print_cost<W: Write>(writer: &mut W, cost: ConsumerCost) -> io::Result<()> {
-    writeln!(
-        writer,
-        "cost {:016x}{:016x} {}",
-        cost.overflow_high, cost.overflow_low, cost.burden
-    )
+    writer.write_all(b"cost ")?;
+    print_hex(writer, cost.overflow_high, 16)?;
+    print_hex(writer, cost.overflow_low, 16)?;
+    print_numbers(writer, b"", &[cost.burden])
 }
 
 // The last word of a span's row is one more than its parent, 0 where it has none.
 fn print_span<W: Write>(writer: &mut W, row: [u64; 4]) -> io::Result<()> {
-    write!(writer, "span {} {} {} ", row[0], row[1], row[2])?;
+    writer.write_all(b"span ")?;
+    for n in &row[..3] {
+        print_decimal(writer, *n)?;
+        writer.write_all(b" ")?;
+    }
     match row[3].checked_sub(1) {
-        Some(parent) => writeln!(writer, "{parent}"),
+        Some(parent) => {
+            print_decimal(writer, parent)?;
+            writer.write_all(b"\n")
+        }
         None => writer.write_all(b"-\n"),
     }
 }

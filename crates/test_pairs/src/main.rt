@@ -10,6 +10,7 @@ use prepare::read::read;
 use prepare::write::{FileCounts, write};
 use std::io;
 use std::io::Write;
+use streams::{print_decimal, print_hex};
 
 // Pairs that are right, pairs that are 3, and whether the kind's line has begun.
 #[derive(Clone, Copy)]
@@ -20,11 +21,13 @@ struct Tally {
 }
 
 // One map more on a kind's line.
-fn say<W: Write>(writer: &mut W, t: Tally, k: u8, m: u8, mark: &str) -> io::Result<Tally> {
+fn say<W: Write>(writer: &mut W, t: Tally, k: u8, m: u8, mark: &[u8]) -> io::Result<Tally> {
     if !t.begun {
-        write!(writer, "{k}")?;
+        print_decimal(writer, u64::from(k))?;
     }
-    write!(writer, " {m:02x}{mark}")?;
+    writer.write_all(b" ")?;
+    print_hex(writer, u64::from(m), 2)?;
+    writer.write_all(mark)?;
     Ok(Tally {
         right: t.right.wrapping_add(1),
         begun: true,
@@ -47,9 +50,9 @@ fn tell<W: Write>(
             ..t
         })
     } else if answer == usual {
-        say(writer, t, k, m, "")
+        say(writer, t, k, m, b"")
     } else if answer == 10 {
-        say(writer, t, k, m, "*")
+        say(writer, t, k, m, b"*")
     } else {
         Ok(t)
     }
@@ -220,7 +223,10 @@ fn lines<W: Write, F: Fn(&mut W, Tally, u8) -> io::Result<Tally>>(
     for k in 0..256u32 {
         t = line(writer, t, k as u8)?;
     }
-    writeln!(writer, "{} {}", t.right, t.wrong)
+    print_decimal(writer, u64::from(t.right))?;
+    writer.write_all(b" ")?;
+    print_decimal(writer, u64::from(t.wrong))?;
+    writer.write_all(b"\n")
 }
 
 fn main(rt: HostRuntime) -> io::Result<()> {

@@ -5,7 +5,7 @@
 use file_form::fill::Counts;
 use std::io;
 use std::io::Write;
-use streams::read_full;
+use streams::{print_decimal, read_full};
 use test_lines::Line;
 
 fn same(
@@ -46,7 +46,10 @@ fn tell<W: Write>(writer: &mut W, file: &[u8]) -> io::Result<()> {
                 writer.write_all(b"0 differs\n")
             }
         }
-        Err(refusal) => writeln!(writer, "{}", refusal.number()),
+        Err(refusal) => {
+            print_decimal(writer, u64::from(refusal.number()))?;
+            writer.write_all(b"\n")
+        }
     }
 }
 

@@ -5,6 +5,7 @@ use file_tables::{NodeId, TextId};
 use prepare::write::{FileCounts, Unwritten, write};
 use std::io;
 use std::io::Write;
+use streams::print_decimal;
 
 const EMPTY: [u32; 8] = [0, 0, 0, 0, 0, 0, 0, 0];
 
@@ -12,8 +13,17 @@ const SPACE: [u32; 3] = [1, 1, 0];
 
 fn say<W: Write>(writer: &mut W, outcome: Result<usize, Unwritten>) -> io::Result<()> {
     match outcome {
-        Ok(k) => writeln!(writer, "0 {k}"),
-        Err(Unwritten { refusal, needed }) => writeln!(writer, "{} {needed}", refusal.number()),
+        Ok(k) => {
+            writer.write_all(b"0 ")?;
+            print_decimal(writer, k as u64)?;
+            writer.write_all(b"\n")
+        }
+        Err(Unwritten { refusal, needed }) => {
+            print_decimal(writer, u64::from(refusal.number()))?;
+            writer.write_all(b" ")?;
+            print_decimal(writer, needed as u64)?;
+            writer.write_all(b"\n")
+        }
     }
 }
 
@@ -229,7 +239,10 @@ fn totals<W: Write>(writer: &mut W) -> io::Result<()> {
 
 // The first byte and the one past the file.
 fn ends<W: Write>(writer: &mut W, out: &[u8; 22]) -> io::Result<()> {
-    writeln!(writer, "{} {}", out[0], out[21])
+    print_decimal(writer, u64::from(out[0]))?;
+    writer.write_all(b" ")?;
+    print_decimal(writer, u64::from(out[21]))?;
+    writer.write_all(b"\n")
 }
 
 // Room for all but one byte: nothing is altered.

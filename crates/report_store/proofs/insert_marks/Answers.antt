@@ -9,9 +9,9 @@ pub loop-i-preserved : goal.loop-i-preserved
 loop-i-preserved c =
     let rows = c.args.rows.now in
     let mark = c.mark_of.ensures ∙ sym (get_or-map words rows c.loop-i.i []) in
-    rw (c.loop-i.invariant, mark) (paste_more c.copy_within.new.self c.args.at (map words rows) c.loop-i.i (words []) (omega arith) (omega (arith, length-map rows words)))
+    rw (c.loop-i.invariant, mark) (paste_more c.open_gap.new.m c.args.at (map words rows) c.loop-i.i (words []) (omega arith) (omega (arith, length-map rows words)))
 
 pub returns : goal.returns
 returns c =
     let e : c.loop-i.i ≡ c.args.n = omega arith in
-    inserted_each words c.args.m.now c.copy_within.new.self _ c.args.rows.now c.args.used c.args.at c.args.n c.requires.0 c.requires.1 c.requires.2 c.copy_within.ensures.after (rw e at c.loop-i.invariant)
+    inserted_each words c.args.m.now c.open_gap.new.m _ c.args.rows.now c.args.used c.args.at c.args.n c.requires.0 c.requires.1 c.requires.2 c.open_gap.ensures (rw e at c.loop-i.invariant)

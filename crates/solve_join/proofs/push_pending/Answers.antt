@@ -9,4 +9,4 @@ pub returns-then-b-top-clause-meets : goal.returns-then-b-top-clause-meets
 returns-then-b-top-clause-meets c = λ ts rs es ks fs ns. pending_stop c.args.b c.args.g.now ts rs c.args.pending.now es ks fs ns _ _ (omega arith) (omega arith)
 
 pub returns : goal.returns
-returns c = rw c.max-g.ensures (record { meets = λ ts rs es ks fs ns. pending_go c.args.b c.args.g.now ts rs c.args.pending.now es ks fs ns _ _ (pending_row _ _ _ _ _ _ _ _ (omega arith) (ap (λ (x : Scratch). x.plan.plan) c.scratch_candidate-c.ensures)) (omega arith) (omega arith) (pending_sound _ c.requires.1 (omega arith)); only = refl })
+returns c = rw c.raise.ensures (record { meets = λ ts rs es ks fs ns. pending_go c.args.b c.args.g.now ts rs c.args.pending.now es ks fs ns _ _ (pending_row _ _ _ _ _ _ _ _ (omega arith) (ap (λ (x : Scratch). x.plan.plan) c.scratch_candidate-c.ensures)) (omega arith) (omega arith) (pending_sound _ c.requires.1 (omega arith)); only = refl })

@@ -9,4 +9,4 @@ returns-in_err-n c = rw (err_is c.from_residual.ensures.1) (record { meets = λ 
 pub returns : goal.returns
 returns c =
     let k = entered_by c.memo_insert.ensures c.in_ok-n.was in
-    rw c.max-g.ensures (record { meets = λ ts rs ps ks fs ns. insert_go c.args.b c.args.g.now ts rs ps c.args.entries.now ks fs ns c.args.index.now _ _ c.args.key c.args.start c.args.len _ k (sound_memo _ c.requires.1 (entered_few k)); memory = record { by = insert_memory c.requires.0 k (record { start = omega arith; len = omega arith }) (search rules) (search rules) } })
+    rw c.raise.ensures (record { meets = λ ts rs ps ks fs ns. insert_go c.args.b c.args.g.now ts rs ps c.args.entries.now ks fs ns c.args.index.now _ _ c.args.key c.args.start c.args.len _ k (sound_memo _ c.requires.1 (entered_few k)); memory = record { by = insert_memory c.requires.0 k (record { start = omega arith; len = omega arith }) (search rules) (search rules) } })
